@@ -1,0 +1,247 @@
+// The instruction of a word.
+
+ghost use Rattle.std.specs.Prelude.{◌≡◌, ◌≢◌, ◌%◌, ◌^◌, ◌<◌, IfSome, IfNone};
+ghost use Rattle.tv_isa.specs.declared.Instr.{Instr};
+ghost use Rattle.tv_isa.specs.Fields.{split, join, Fits};
+ghost use Rattle.tv_isa.specs.Table.{reading, word_of, InRange, row_at, jalr_at, branch_at, load_at, store_at, op_imm_at, op_imm_32_at, op_at, op_32_at, misc_mem_at};
+
+use crate::Instr;
+use crate::fields::{Fields, split_word};
+use crate::formats::{b_immediate, i_immediate, j_immediate, s_immediate, shift_of, u_immediate};
+
+/// The instruction of a word, or `None` where the word is in no row of the listing.
+#[inline(always)]
+#[tactic(auto, using(crate::proofs::Laws::reading_again), unfolding(crate::specs::Table::reading))]
+pub fn decode(word: u32) -> Option<Instr>
+    ensures exact { result ≡ reading word }
+    ensures found { IfSome result (λ i. InRange i × (word_of i ≡ word)) }
+    ensures none { IfNone result ((i : Instr) → InRange i → word_of i ≢ word) }
+{
+    row_of(word, split_word(word))
+}
+
+// The instruction of a word with these fields, by opcode.
+#[inline(always)]
+#[tactic(auto, unfolding(crate::specs::Table::row_at, crate::specs::Table::word_of, crate::specs::Fields::join))]
+fn row_of(word: u32, f: Fields) -> Option<Instr>
+    requires fits { Fits f }
+    requires fields { f ≡ split word }
+    ensures exact { result ≡ row_at word f }
+    ensures found { IfSome result (λ i. InRange i × (word_of i ≡ join f)) }
+{
+    let rd = f.rd;
+    match f.opcode {
+        0x37 => Some(Instr::Lui {
+            rd,
+            imm: u_immediate(f),
+        }),
+        0x17 => Some(Instr::Auipc {
+            rd,
+            imm: u_immediate(f),
+        }),
+        0x6f => Some(Instr::Jal {
+            rd,
+            offset: j_immediate(f),
+        }),
+        0x67 => jalr_of(f),
+        0x63 => branch_of(f),
+        0x03 => load_of(f),
+        0x23 => store_of(f),
+        0x13 => op_imm_of(f),
+        0x1b => op_imm_32_of(f),
+        0x33 => op_of(f),
+        0x3b => op_32_of(f),
+        0x0f => misc_mem_of(word, f),
+        _ => None,
+    }
+}
+
+// JALR.
+#[inline(always)]
+#[tactic(auto, unfolding(crate::specs::Table::word_of, crate::specs::Fields::join))]
+fn jalr_of(f: Fields) -> Option<Instr>
+    requires fits { Fits f }
+    requires opcode { f.opcode ≡ 0x67 }
+    ensures exact { result ≡ jalr_at f }
+    ensures found { IfSome result (λ i. InRange i × (word_of i ≡ join f)) }
+{
+    let Fields { rd, rs1, .. } = f;
+    let imm = i_immediate(f);
+    match f.funct3 {
+        0 => Some(Instr::Jalr { rd, rs1, imm }),
+        _ => None,
+    }
+}
+
+// BRANCH.
+#[inline(always)]
+#[tactic(auto, unfolding(crate::specs::Table::word_of, crate::specs::Fields::join))]
+fn branch_of(f: Fields) -> Option<Instr>
+    requires fits { Fits f }
+    requires opcode { f.opcode ≡ 0x63 }
+    ensures exact { result ≡ branch_at f }
+    ensures found { IfSome result (λ i. InRange i × (word_of i ≡ join f)) }
+{
+    let Fields { rs1, rs2, .. } = f;
+    let offset = b_immediate(f);
+    match f.funct3 {
+        0 => Some(Instr::Beq { rs1, rs2, offset }),
+        1 => Some(Instr::Bne { rs1, rs2, offset }),
+        4 => Some(Instr::Blt { rs1, rs2, offset }),
+        5 => Some(Instr::Bge { rs1, rs2, offset }),
+        6 => Some(Instr::Bltu { rs1, rs2, offset }),
+        7 => Some(Instr::Bgeu { rs1, rs2, offset }),
+        _ => None,
+    }
+}
+
+// LOAD.
+#[inline(always)]
+#[tactic(auto, unfolding(crate::specs::Table::word_of, crate::specs::Fields::join))]
+fn load_of(f: Fields) -> Option<Instr>
+    requires fits { Fits f }
+    requires opcode { f.opcode ≡ 0x03 }
+    ensures exact { result ≡ load_at f }
+    ensures found { IfSome result (λ i. InRange i × (word_of i ≡ join f)) }
+{
+    let Fields { rd, rs1, .. } = f;
+    let imm = i_immediate(f);
+    match f.funct3 {
+        0 => Some(Instr::Lb { rd, rs1, imm }),
+        1 => Some(Instr::Lh { rd, rs1, imm }),
+        2 => Some(Instr::Lw { rd, rs1, imm }),
+        3 => Some(Instr::Ld { rd, rs1, imm }),
+        4 => Some(Instr::Lbu { rd, rs1, imm }),
+        5 => Some(Instr::Lhu { rd, rs1, imm }),
+        6 => Some(Instr::Lwu { rd, rs1, imm }),
+        _ => None,
+    }
+}
+
+// STORE.
+#[inline(always)]
+#[tactic(auto, unfolding(crate::specs::Table::word_of, crate::specs::Fields::join))]
+fn store_of(f: Fields) -> Option<Instr>
+    requires fits { Fits f }
+    requires opcode { f.opcode ≡ 0x23 }
+    ensures exact { result ≡ store_at f }
+    ensures found { IfSome result (λ i. InRange i × (word_of i ≡ join f)) }
+{
+    let Fields { rs1, rs2, .. } = f;
+    let imm = s_immediate(f);
+    match f.funct3 {
+        0 => Some(Instr::Sb { rs1, rs2, imm }),
+        1 => Some(Instr::Sh { rs1, rs2, imm }),
+        2 => Some(Instr::Sw { rs1, rs2, imm }),
+        3 => Some(Instr::Sd { rs1, rs2, imm }),
+        _ => None,
+    }
+}
+
+// OP-IMM.
+#[inline(always)]
+#[tactic(auto, unfolding(crate::specs::Table::word_of, crate::specs::Fields::join))]
+fn op_imm_of(f: Fields) -> Option<Instr>
+    requires fits { Fits f }
+    requires opcode { f.opcode ≡ 0x13 }
+    ensures exact { result ≡ op_imm_at f }
+    ensures found { IfSome result (λ i. InRange i × (word_of i ≡ join f)) }
+{
+    let Fields { rd, rs1, .. } = f;
+    let imm = i_immediate(f);
+    let shamt = shift_of(f);
+    match f.funct3 {
+        0 => Some(Instr::Addi { rd, rs1, imm }),
+        2 => Some(Instr::Slti { rd, rs1, imm }),
+        3 => Some(Instr::Sltiu { rd, rs1, imm }),
+        4 => Some(Instr::Xori { rd, rs1, imm }),
+        6 => Some(Instr::Ori { rd, rs1, imm }),
+        7 => Some(Instr::Andi { rd, rs1, imm }),
+        1 if f.funct7 / 2 == 0 => Some(Instr::Slli { rd, rs1, shamt }),
+        5 if f.funct7 / 2 == 0 => Some(Instr::Srli { rd, rs1, shamt }),
+        5 if f.funct7 / 2 == 0x10 => Some(Instr::Srai { rd, rs1, shamt }),
+        _ => None,
+    }
+}
+
+// OP-IMM-32.
+#[inline(always)]
+#[tactic(auto, unfolding(crate::specs::Table::word_of, crate::specs::Fields::join))]
+fn op_imm_32_of(f: Fields) -> Option<Instr>
+    requires fits { Fits f }
+    requires opcode { f.opcode ≡ 0x1b }
+    ensures exact { result ≡ op_imm_32_at f }
+    ensures found { IfSome result (λ i. InRange i × (word_of i ≡ join f)) }
+{
+    let Fields { rd, rs1, .. } = f;
+    let imm = i_immediate(f);
+    let shamt = u32::from(f.rs2);
+    match f.funct3 {
+        0 => Some(Instr::Addiw { rd, rs1, imm }),
+        1 if f.funct7 == 0 => Some(Instr::Slliw { rd, rs1, shamt }),
+        5 if f.funct7 == 0 => Some(Instr::Srliw { rd, rs1, shamt }),
+        5 if f.funct7 == 0x20 => Some(Instr::Sraiw { rd, rs1, shamt }),
+        _ => None,
+    }
+}
+
+// OP.
+#[inline(always)]
+#[tactic(auto, unfolding(crate::specs::Table::word_of, crate::specs::Fields::join))]
+fn op_of(f: Fields) -> Option<Instr>
+    requires fits { Fits f }
+    requires opcode { f.opcode ≡ 0x33 }
+    ensures exact { result ≡ op_at f }
+    ensures found { IfSome result (λ i. InRange i × (word_of i ≡ join f)) }
+{
+    let Fields { rd, rs1, rs2, .. } = f;
+    match (f.funct7, f.funct3) {
+        (0, 0) => Some(Instr::Add { rd, rs1, rs2 }),
+        (0x20, 0) => Some(Instr::Sub { rd, rs1, rs2 }),
+        (0, 1) => Some(Instr::Sll { rd, rs1, rs2 }),
+        (0, 2) => Some(Instr::Slt { rd, rs1, rs2 }),
+        (0, 3) => Some(Instr::Sltu { rd, rs1, rs2 }),
+        (0, 4) => Some(Instr::Xor { rd, rs1, rs2 }),
+        (0, 5) => Some(Instr::Srl { rd, rs1, rs2 }),
+        (0x20, 5) => Some(Instr::Sra { rd, rs1, rs2 }),
+        (0, 6) => Some(Instr::Or { rd, rs1, rs2 }),
+        (0, 7) => Some(Instr::And { rd, rs1, rs2 }),
+        _ => None,
+    }
+}
+
+// OP-32.
+#[inline(always)]
+#[tactic(auto, unfolding(crate::specs::Table::word_of, crate::specs::Fields::join))]
+fn op_32_of(f: Fields) -> Option<Instr>
+    requires fits { Fits f }
+    requires opcode { f.opcode ≡ 0x3b }
+    ensures exact { result ≡ op_32_at f }
+    ensures found { IfSome result (λ i. InRange i × (word_of i ≡ join f)) }
+{
+    let Fields { rd, rs1, rs2, .. } = f;
+    match (f.funct7, f.funct3) {
+        (0, 0) => Some(Instr::Addw { rd, rs1, rs2 }),
+        (0x20, 0) => Some(Instr::Subw { rd, rs1, rs2 }),
+        (0, 1) => Some(Instr::Sllw { rd, rs1, rs2 }),
+        (0, 5) => Some(Instr::Srlw { rd, rs1, rs2 }),
+        (0x20, 5) => Some(Instr::Sraw { rd, rs1, rs2 }),
+        _ => None,
+    }
+}
+
+// MISC-MEM: the fences keep the word.
+#[inline(always)]
+#[tactic(auto, unfolding(crate::specs::Table::word_of))]
+fn misc_mem_of(word: u32, f: Fields) -> Option<Instr>
+    requires fields { f ≡ split word }
+    requires opcode { f.opcode ≡ 0x0f }
+    ensures exact { result ≡ misc_mem_at word f }
+    ensures found { IfSome result (λ i. InRange i × (word_of i ≡ join f)) }
+{
+    match f.funct3 {
+        0 => Some(Instr::Fence { word }),
+        1 => Some(Instr::FenceI { word }),
+        _ => None,
+    }
+}
