@@ -1,13 +1,17 @@
 -- The immediates of the formats, put into fields and read back.
 use Rattle.std.proofs.Common.{◌≡◌, ℕ, ◌+◌, ◌*◌, ◌/◌, ◌%◌, ◌^◌, ◌<◌, arith}
 use Rattle.tv_isa.specs.Fields.{Fits}
-use Rattle.tv_isa.specs.Formats.{r_form, i_form, shift_form, shift_w_form, s_form, b_form, u_form, j_form}
+use Rattle.tv_isa.specs.Formats.{r_form, amo_form, i_form, shift_form, shift_w_form, s_form, b_form, u_form, j_form}
 use Rattle.tv_isa.specs.Formats.{b_offset, u_imm, j_offset}
-use Rattle.tv_isa.specs.Table.{FitsR, FitsI, FitsShift, FitsShiftW, FitsS, FitsB, FitsU, FitsJ}
+use Rattle.tv_isa.specs.Table.{FitsR, FitsAmo, FitsI, FitsShift, FitsShiftW, FitsS, FitsB, FitsU, FitsJ}
 
 -- the fields of each format fit, where its parts do
 pub fits_r : (opcode funct3 funct7 rd rs1 rs2 : ℕ) → opcode < 2 ^ 7 → funct3 < 2 ^ 3 → funct7 < 2 ^ 7 → FitsR rd rs1 rs2 → Fits (r_form opcode funct3 funct7 rd rs1 rs2)
 fits_r opcode funct3 funct7 rd rs1 rs2 h0 h1 h2 fits =
+    (omega arith, omega arith, omega arith, omega arith, omega arith, omega arith)
+
+pub fits_amo : (funct3 funct5 rd rs1 rs2 ordering : ℕ) → funct3 < 2 ^ 3 → funct5 < 2 ^ 5 → FitsAmo rd rs1 rs2 ordering → Fits (amo_form 0x2f funct3 funct5 rd rs1 rs2 ordering)
+fits_amo funct3 funct5 rd rs1 rs2 ordering h0 h1 fits =
     (omega arith, omega arith, omega arith, omega arith, omega arith, omega arith)
 
 pub fits_i : (opcode funct3 rd rs1 imm : ℕ) → opcode < 2 ^ 7 → funct3 < 2 ^ 3 → FitsI rd rs1 imm → Fits (i_form opcode funct3 rd rs1 imm)
@@ -37,6 +41,13 @@ fits_u opcode rd imm h0 fits =
 pub fits_j : (opcode rd offset : ℕ) → opcode < 2 ^ 7 → FitsJ rd offset → Fits (j_form opcode rd offset)
 fits_j opcode rd offset h0 fits =
     (omega arith, omega arith, omega arith, omega arith, omega arith, omega arith)
+
+-- aq and rl share funct7 with funct5
+pub funct5_again : (funct5 ordering : ℕ) → ordering < 2 ^ 2 → (funct5 * 2 ^ 2 + ordering) / 2 ^ 2 ≡ funct5
+funct5_again funct5 ordering h = omega arith
+
+pub ordering_again : (funct5 ordering : ℕ) → ordering < 2 ^ 2 → (funct5 * 2 ^ 2 + ordering) % 2 ^ 2 ≡ ordering
+ordering_again funct5 ordering h = omega arith
 
 -- the 12 bits of an I immediate
 pub i_imm_again : (imm : ℕ) → imm / 2 ^ 5 * 2 ^ 5 + imm % 2 ^ 5 ≡ imm

@@ -5,8 +5,8 @@ use Rattle.tv_isa.specs.declared.Instr.TheVariants as instr
 use Rattle.tv_isa.specs.Fields.{Fits}
 use Rattle.tv_isa.specs.Table.{fields_of, word_of, InRange, row_at, reading}
 use Rattle.tv_isa.proofs.Words.{join_split, split_join, fits_split}
-use Rattle.tv_isa.proofs.Immediates.{i_imm_again, s_imm_again, b_offset_again, u_imm_again, j_offset_again, funct6_again, shift_again}
-use Rattle.tv_isa.proofs.Immediates.{fits_r, fits_i, fits_shift, fits_shift_w, fits_s, fits_b, fits_u, fits_j}
+use Rattle.tv_isa.proofs.Immediates.{i_imm_again, s_imm_again, b_offset_again, u_imm_again, j_offset_again, funct6_again, shift_again, funct5_again, ordering_again}
+use Rattle.tv_isa.proofs.Immediates.{fits_r, fits_amo, fits_i, fits_shift, fits_shift_w, fits_s, fits_b, fits_u, fits_j}
 
 -- the fields of a row fit
 pub fits_of : (i : Instr) → InRange i → Fits (fields_of i)
@@ -61,6 +61,51 @@ fits_of (instr.Srlw rd rs1 rs2) fits = fits_r 0x3b 5 0 rd rs1 rs2 (lit< tt) (lit
 fits_of (instr.Sraw rd rs1 rs2) fits = fits_r 0x3b 5 0x20 rd rs1 rs2 (lit< tt) (lit< tt) (lit< tt) fits
 fits_of (instr.Fence word) fits = fits_split word fits.0
 fits_of (instr.FenceI word) fits = fits_split word fits.0
+fits_of (instr.Mul rd rs1 rs2) fits = fits_r 0x33 0 1 rd rs1 rs2 (lit< tt) (lit< tt) (lit< tt) fits
+fits_of (instr.Mulh rd rs1 rs2) fits = fits_r 0x33 1 1 rd rs1 rs2 (lit< tt) (lit< tt) (lit< tt) fits
+fits_of (instr.Mulhsu rd rs1 rs2) fits = fits_r 0x33 2 1 rd rs1 rs2 (lit< tt) (lit< tt) (lit< tt) fits
+fits_of (instr.Mulhu rd rs1 rs2) fits = fits_r 0x33 3 1 rd rs1 rs2 (lit< tt) (lit< tt) (lit< tt) fits
+fits_of (instr.Div rd rs1 rs2) fits = fits_r 0x33 4 1 rd rs1 rs2 (lit< tt) (lit< tt) (lit< tt) fits
+fits_of (instr.Divu rd rs1 rs2) fits = fits_r 0x33 5 1 rd rs1 rs2 (lit< tt) (lit< tt) (lit< tt) fits
+fits_of (instr.Rem rd rs1 rs2) fits = fits_r 0x33 6 1 rd rs1 rs2 (lit< tt) (lit< tt) (lit< tt) fits
+fits_of (instr.Remu rd rs1 rs2) fits = fits_r 0x33 7 1 rd rs1 rs2 (lit< tt) (lit< tt) (lit< tt) fits
+fits_of (instr.Mulw rd rs1 rs2) fits = fits_r 0x3b 0 1 rd rs1 rs2 (lit< tt) (lit< tt) (lit< tt) fits
+fits_of (instr.Divw rd rs1 rs2) fits = fits_r 0x3b 4 1 rd rs1 rs2 (lit< tt) (lit< tt) (lit< tt) fits
+fits_of (instr.Divuw rd rs1 rs2) fits = fits_r 0x3b 5 1 rd rs1 rs2 (lit< tt) (lit< tt) (lit< tt) fits
+fits_of (instr.Remw rd rs1 rs2) fits = fits_r 0x3b 6 1 rd rs1 rs2 (lit< tt) (lit< tt) (lit< tt) fits
+fits_of (instr.Remuw rd rs1 rs2) fits = fits_r 0x3b 7 1 rd rs1 rs2 (lit< tt) (lit< tt) (lit< tt) fits
+fits_of (instr.LrW rd rs1 ordering) fits = fits_amo 2 0x02 rd rs1 0 ordering (lit< tt) (lit< tt) fits
+fits_of (instr.ScW rd rs1 rs2 ordering) fits = fits_amo 2 0x03 rd rs1 rs2 ordering (lit< tt) (lit< tt) fits
+fits_of (instr.AmoSwapW rd rs1 rs2 ordering) fits = fits_amo 2 0x01 rd rs1 rs2 ordering (lit< tt) (lit< tt) fits
+fits_of (instr.AmoAddW rd rs1 rs2 ordering) fits = fits_amo 2 0x00 rd rs1 rs2 ordering (lit< tt) (lit< tt) fits
+fits_of (instr.AmoXorW rd rs1 rs2 ordering) fits = fits_amo 2 0x04 rd rs1 rs2 ordering (lit< tt) (lit< tt) fits
+fits_of (instr.AmoAndW rd rs1 rs2 ordering) fits = fits_amo 2 0x0c rd rs1 rs2 ordering (lit< tt) (lit< tt) fits
+fits_of (instr.AmoOrW rd rs1 rs2 ordering) fits = fits_amo 2 0x08 rd rs1 rs2 ordering (lit< tt) (lit< tt) fits
+fits_of (instr.AmoMinW rd rs1 rs2 ordering) fits = fits_amo 2 0x10 rd rs1 rs2 ordering (lit< tt) (lit< tt) fits
+fits_of (instr.AmoMaxW rd rs1 rs2 ordering) fits = fits_amo 2 0x14 rd rs1 rs2 ordering (lit< tt) (lit< tt) fits
+fits_of (instr.AmoMinuW rd rs1 rs2 ordering) fits = fits_amo 2 0x18 rd rs1 rs2 ordering (lit< tt) (lit< tt) fits
+fits_of (instr.AmoMaxuW rd rs1 rs2 ordering) fits = fits_amo 2 0x1c rd rs1 rs2 ordering (lit< tt) (lit< tt) fits
+fits_of (instr.LrD rd rs1 ordering) fits = fits_amo 3 0x02 rd rs1 0 ordering (lit< tt) (lit< tt) fits
+fits_of (instr.ScD rd rs1 rs2 ordering) fits = fits_amo 3 0x03 rd rs1 rs2 ordering (lit< tt) (lit< tt) fits
+fits_of (instr.AmoSwapD rd rs1 rs2 ordering) fits = fits_amo 3 0x01 rd rs1 rs2 ordering (lit< tt) (lit< tt) fits
+fits_of (instr.AmoAddD rd rs1 rs2 ordering) fits = fits_amo 3 0x00 rd rs1 rs2 ordering (lit< tt) (lit< tt) fits
+fits_of (instr.AmoXorD rd rs1 rs2 ordering) fits = fits_amo 3 0x04 rd rs1 rs2 ordering (lit< tt) (lit< tt) fits
+fits_of (instr.AmoAndD rd rs1 rs2 ordering) fits = fits_amo 3 0x0c rd rs1 rs2 ordering (lit< tt) (lit< tt) fits
+fits_of (instr.AmoOrD rd rs1 rs2 ordering) fits = fits_amo 3 0x08 rd rs1 rs2 ordering (lit< tt) (lit< tt) fits
+fits_of (instr.AmoMinD rd rs1 rs2 ordering) fits = fits_amo 3 0x10 rd rs1 rs2 ordering (lit< tt) (lit< tt) fits
+fits_of (instr.AmoMaxD rd rs1 rs2 ordering) fits = fits_amo 3 0x14 rd rs1 rs2 ordering (lit< tt) (lit< tt) fits
+fits_of (instr.AmoMinuD rd rs1 rs2 ordering) fits = fits_amo 3 0x18 rd rs1 rs2 ordering (lit< tt) (lit< tt) fits
+fits_of (instr.AmoMaxuD rd rs1 rs2 ordering) fits = fits_amo 3 0x1c rd rs1 rs2 ordering (lit< tt) (lit< tt) fits
+fits_of (instr.Csrrw rd rs1 csr) fits = fits_i 0x73 1 rd rs1 csr (lit< tt) (lit< tt) fits
+fits_of (instr.Csrrs rd rs1 csr) fits = fits_i 0x73 2 rd rs1 csr (lit< tt) (lit< tt) fits
+fits_of (instr.Csrrc rd rs1 csr) fits = fits_i 0x73 3 rd rs1 csr (lit< tt) (lit< tt) fits
+fits_of (instr.Csrrwi rd uimm csr) fits = fits_i 0x73 5 rd uimm csr (lit< tt) (lit< tt) fits
+fits_of (instr.Csrrsi rd uimm csr) fits = fits_i 0x73 6 rd uimm csr (lit< tt) (lit< tt) fits
+fits_of (instr.Csrrci rd uimm csr) fits = fits_i 0x73 7 rd uimm csr (lit< tt) (lit< tt) fits
+fits_of instr.Ecall _ = fits_split 0x00000073 (lit< tt)
+fits_of instr.Ebreak _ = fits_split 0x00100073 (lit< tt)
+fits_of instr.Mret _ = fits_split 0x30200073 (lit< tt)
+fits_of instr.Wfi _ = fits_split 0x10500073 (lit< tt)
 
 -- the fields of a row are read as that row
 pub row_at_fields : (i : Instr) → InRange i → row_at (word_of i) (fields_of i) ≡ Some i
@@ -116,6 +161,51 @@ row_at_fields (instr.Srlw rd rs1 rs2) _ = refl
 row_at_fields (instr.Sraw rd rs1 rs2) _ = refl
 row_at_fields (instr.Fence word) fits = rw (join_split word, fits.1, fits.2) refl
 row_at_fields (instr.FenceI word) fits = rw (join_split word, fits.1, fits.2) refl
+row_at_fields (instr.Mul rd rs1 rs2) _ = refl
+row_at_fields (instr.Mulh rd rs1 rs2) _ = refl
+row_at_fields (instr.Mulhsu rd rs1 rs2) _ = refl
+row_at_fields (instr.Mulhu rd rs1 rs2) _ = refl
+row_at_fields (instr.Div rd rs1 rs2) _ = refl
+row_at_fields (instr.Divu rd rs1 rs2) _ = refl
+row_at_fields (instr.Rem rd rs1 rs2) _ = refl
+row_at_fields (instr.Remu rd rs1 rs2) _ = refl
+row_at_fields (instr.Mulw rd rs1 rs2) _ = refl
+row_at_fields (instr.Divw rd rs1 rs2) _ = refl
+row_at_fields (instr.Divuw rd rs1 rs2) _ = refl
+row_at_fields (instr.Remw rd rs1 rs2) _ = refl
+row_at_fields (instr.Remuw rd rs1 rs2) _ = refl
+row_at_fields (instr.LrW rd rs1 ordering) fits = rw (funct5_again 0x02 ordering fits.3) (ap (λ (x : ℕ). Some (instr.LrW rd rs1 x)) (ordering_again 0x02 ordering fits.3))
+row_at_fields (instr.ScW rd rs1 rs2 ordering) fits = rw (funct5_again 0x03 ordering fits.3) (ap (λ (x : ℕ). Some (instr.ScW rd rs1 rs2 x)) (ordering_again 0x03 ordering fits.3))
+row_at_fields (instr.AmoSwapW rd rs1 rs2 ordering) fits = rw (funct5_again 0x01 ordering fits.3) (ap (λ (x : ℕ). Some (instr.AmoSwapW rd rs1 rs2 x)) (ordering_again 0x01 ordering fits.3))
+row_at_fields (instr.AmoAddW rd rs1 rs2 ordering) fits = rw (funct5_again 0x00 ordering fits.3) (ap (λ (x : ℕ). Some (instr.AmoAddW rd rs1 rs2 x)) (ordering_again 0x00 ordering fits.3))
+row_at_fields (instr.AmoXorW rd rs1 rs2 ordering) fits = rw (funct5_again 0x04 ordering fits.3) (ap (λ (x : ℕ). Some (instr.AmoXorW rd rs1 rs2 x)) (ordering_again 0x04 ordering fits.3))
+row_at_fields (instr.AmoAndW rd rs1 rs2 ordering) fits = rw (funct5_again 0x0c ordering fits.3) (ap (λ (x : ℕ). Some (instr.AmoAndW rd rs1 rs2 x)) (ordering_again 0x0c ordering fits.3))
+row_at_fields (instr.AmoOrW rd rs1 rs2 ordering) fits = rw (funct5_again 0x08 ordering fits.3) (ap (λ (x : ℕ). Some (instr.AmoOrW rd rs1 rs2 x)) (ordering_again 0x08 ordering fits.3))
+row_at_fields (instr.AmoMinW rd rs1 rs2 ordering) fits = rw (funct5_again 0x10 ordering fits.3) (ap (λ (x : ℕ). Some (instr.AmoMinW rd rs1 rs2 x)) (ordering_again 0x10 ordering fits.3))
+row_at_fields (instr.AmoMaxW rd rs1 rs2 ordering) fits = rw (funct5_again 0x14 ordering fits.3) (ap (λ (x : ℕ). Some (instr.AmoMaxW rd rs1 rs2 x)) (ordering_again 0x14 ordering fits.3))
+row_at_fields (instr.AmoMinuW rd rs1 rs2 ordering) fits = rw (funct5_again 0x18 ordering fits.3) (ap (λ (x : ℕ). Some (instr.AmoMinuW rd rs1 rs2 x)) (ordering_again 0x18 ordering fits.3))
+row_at_fields (instr.AmoMaxuW rd rs1 rs2 ordering) fits = rw (funct5_again 0x1c ordering fits.3) (ap (λ (x : ℕ). Some (instr.AmoMaxuW rd rs1 rs2 x)) (ordering_again 0x1c ordering fits.3))
+row_at_fields (instr.LrD rd rs1 ordering) fits = rw (funct5_again 0x02 ordering fits.3) (ap (λ (x : ℕ). Some (instr.LrD rd rs1 x)) (ordering_again 0x02 ordering fits.3))
+row_at_fields (instr.ScD rd rs1 rs2 ordering) fits = rw (funct5_again 0x03 ordering fits.3) (ap (λ (x : ℕ). Some (instr.ScD rd rs1 rs2 x)) (ordering_again 0x03 ordering fits.3))
+row_at_fields (instr.AmoSwapD rd rs1 rs2 ordering) fits = rw (funct5_again 0x01 ordering fits.3) (ap (λ (x : ℕ). Some (instr.AmoSwapD rd rs1 rs2 x)) (ordering_again 0x01 ordering fits.3))
+row_at_fields (instr.AmoAddD rd rs1 rs2 ordering) fits = rw (funct5_again 0x00 ordering fits.3) (ap (λ (x : ℕ). Some (instr.AmoAddD rd rs1 rs2 x)) (ordering_again 0x00 ordering fits.3))
+row_at_fields (instr.AmoXorD rd rs1 rs2 ordering) fits = rw (funct5_again 0x04 ordering fits.3) (ap (λ (x : ℕ). Some (instr.AmoXorD rd rs1 rs2 x)) (ordering_again 0x04 ordering fits.3))
+row_at_fields (instr.AmoAndD rd rs1 rs2 ordering) fits = rw (funct5_again 0x0c ordering fits.3) (ap (λ (x : ℕ). Some (instr.AmoAndD rd rs1 rs2 x)) (ordering_again 0x0c ordering fits.3))
+row_at_fields (instr.AmoOrD rd rs1 rs2 ordering) fits = rw (funct5_again 0x08 ordering fits.3) (ap (λ (x : ℕ). Some (instr.AmoOrD rd rs1 rs2 x)) (ordering_again 0x08 ordering fits.3))
+row_at_fields (instr.AmoMinD rd rs1 rs2 ordering) fits = rw (funct5_again 0x10 ordering fits.3) (ap (λ (x : ℕ). Some (instr.AmoMinD rd rs1 rs2 x)) (ordering_again 0x10 ordering fits.3))
+row_at_fields (instr.AmoMaxD rd rs1 rs2 ordering) fits = rw (funct5_again 0x14 ordering fits.3) (ap (λ (x : ℕ). Some (instr.AmoMaxD rd rs1 rs2 x)) (ordering_again 0x14 ordering fits.3))
+row_at_fields (instr.AmoMinuD rd rs1 rs2 ordering) fits = rw (funct5_again 0x18 ordering fits.3) (ap (λ (x : ℕ). Some (instr.AmoMinuD rd rs1 rs2 x)) (ordering_again 0x18 ordering fits.3))
+row_at_fields (instr.AmoMaxuD rd rs1 rs2 ordering) fits = rw (funct5_again 0x1c ordering fits.3) (ap (λ (x : ℕ). Some (instr.AmoMaxuD rd rs1 rs2 x)) (ordering_again 0x1c ordering fits.3))
+row_at_fields (instr.Csrrw rd rs1 csr) _ = ap (λ (x : ℕ). Some (instr.Csrrw rd rs1 x)) (i_imm_again csr)
+row_at_fields (instr.Csrrs rd rs1 csr) _ = ap (λ (x : ℕ). Some (instr.Csrrs rd rs1 x)) (i_imm_again csr)
+row_at_fields (instr.Csrrc rd rs1 csr) _ = ap (λ (x : ℕ). Some (instr.Csrrc rd rs1 x)) (i_imm_again csr)
+row_at_fields (instr.Csrrwi rd uimm csr) _ = ap (λ (x : ℕ). Some (instr.Csrrwi rd uimm x)) (i_imm_again csr)
+row_at_fields (instr.Csrrsi rd uimm csr) _ = ap (λ (x : ℕ). Some (instr.Csrrsi rd uimm x)) (i_imm_again csr)
+row_at_fields (instr.Csrrci rd uimm csr) _ = ap (λ (x : ℕ). Some (instr.Csrrci rd uimm x)) (i_imm_again csr)
+row_at_fields instr.Ecall _ = rw (join_split 0x00000073) refl
+row_at_fields instr.Ebreak _ = rw (join_split 0x00100073) refl
+row_at_fields instr.Mret _ = rw (join_split 0x30200073) refl
+row_at_fields instr.Wfi _ = rw (join_split 0x10500073) refl
 
 -- the word of an instruction is read as that instruction
 pub reading_again : (i : Instr) → InRange i → reading (word_of i) ≡ Some i

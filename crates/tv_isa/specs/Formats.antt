@@ -10,6 +10,11 @@ abbrev pub r_form : ℕ → ℕ → ℕ → ℕ → ℕ → ℕ → Fields
 r_form opcode funct3 funct7 rd rs1 rs2 =
     record { opcode = opcode; rd = rd; funct3 = funct3; rs1 = rs1; rs2 = rs2; funct7 = funct7 }
 
+-- R with funct5 in bits 31:27, and aq and rl in bits 26 and 25
+abbrev pub amo_form : ℕ → ℕ → ℕ → ℕ → ℕ → ℕ → ℕ → Fields
+amo_form opcode funct3 funct5 rd rs1 rs2 ordering =
+    record { opcode = opcode; rd = rd; funct3 = funct3; rs1 = rs1; rs2 = rs2; funct7 = funct5 * 2 ^ 2 + ordering }
+
 -- I: imm[11:0] in bits 31:20
 abbrev pub i_form : ℕ → ℕ → ℕ → ℕ → ℕ → Fields
 i_form opcode funct3 rd rs1 imm =
@@ -68,6 +73,13 @@ j_form opcode rd offset = record {
   rs2 = offset / 2 % 2 ^ 4 * 2 + offset / 2 ^ 11 % 2;
   funct7 = offset / 2 ^ 20 * 2 ^ 6 + offset / 2 ^ 5 % 2 ^ 6;
 }
+
+-- funct5, and the two bits aq and rl
+abbrev pub funct5 : Fields → ℕ
+funct5 f = f.funct7 / 2 ^ 2
+
+abbrev pub ordering : Fields → ℕ
+ordering f = f.funct7 % 2 ^ 2
 
 -- the 12 bits of an I immediate
 abbrev pub i_imm : Fields → ℕ

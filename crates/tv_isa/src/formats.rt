@@ -2,9 +2,9 @@
 
 ghost use Rattle.std.specs.Prelude.{◌≡◌, ◌<◌, ◌^◌, ◌%◌};
 ghost use Rattle.tv_isa.specs.Fields.{Fits};
-ghost use Rattle.tv_isa.specs.Formats.{r_form, i_form, shift_form, shift_w_form, s_form, b_form, u_form, j_form};
-ghost use Rattle.tv_isa.specs.Table.{FitsI, FitsShift, FitsShiftW, FitsS, FitsB, FitsU, FitsJ};
-ghost use Rattle.tv_isa.specs.Formats.{i_imm, shift_amount, s_imm, b_offset, u_imm, j_offset};
+ghost use Rattle.tv_isa.specs.Formats.{r_form, amo_form, i_form, shift_form, shift_w_form, s_form, b_form, u_form, j_form};
+ghost use Rattle.tv_isa.specs.Table.{FitsAmo, FitsI, FitsShift, FitsShiftW, FitsS, FitsB, FitsU, FitsJ};
+ghost use Rattle.tv_isa.specs.Formats.{ordering, i_imm, shift_amount, s_imm, b_offset, u_imm, j_offset};
 
 use crate::fields::Fields;
 
@@ -19,6 +19,22 @@ pub fn r_fields(opcode: u8, funct3: u8, funct7: u8, rd: u8, rs1: u8, rs2: u8) ->
         rs1,
         rs2,
         funct7,
+    }
+}
+
+/// The fields of an atomic memory operation.
+pub fn amo_fields(funct3: u8, funct5: u8, rd: u8, rs1: u8, rs2: u8, ordering: u8) -> Fields
+    requires funct5 { funct5 < 2 ^ 5 }
+    requires fits { FitsAmo rd rs1 rs2 ordering }
+    ensures { result ≡ amo_form 0x2f funct3 funct5 rd rs1 rs2 ordering }
+{
+    Fields {
+        opcode: 0x2f,
+        rd,
+        funct3,
+        rs1,
+        rs2,
+        funct7: funct5 * 4 + ordering,
     }
 }
 
@@ -135,6 +151,23 @@ pub fn i_immediate(f: Fields) -> u32
     ensures { result ≡ i_imm f }
 {
     u32::from(f.funct7) * 32 + u32::from(f.rs2)
+}
+
+/// The bits aq and rl of an atomic memory operation.
+#[inline(always)]
+pub fn ordering_of(f: Fields) -> u8
+    ensures { result ≡ ordering f }
+{
+    f.funct7 % 4
+}
+
+/// The number of a control and status register, in the place of an I immediate.
+#[inline(always)]
+pub fn csr_of(f: Fields) -> u16
+    requires { Fits f }
+    ensures { result ≡ i_imm f }
+{
+    u16::from(f.funct7) * 32 + u16::from(f.rs2)
 }
 
 /// The shift amount of 6 bits.

@@ -3,11 +3,13 @@
 ghost use Rattle.std.specs.Prelude.{◌≡◌, ◌≢◌, ◌%◌, ◌^◌, ◌<◌, IfSome, IfNone};
 ghost use Rattle.tv_isa.specs.declared.Instr.{Instr};
 ghost use Rattle.tv_isa.specs.Fields.{split, join, Fits};
-ghost use Rattle.tv_isa.specs.Table.{reading, word_of, InRange, row_at, jalr_at, branch_at, load_at, store_at, op_imm_at, op_imm_32_at, op_at, op_32_at, misc_mem_at};
+ghost use Rattle.tv_isa.specs.Table.{reading, word_of, InRange, row_at, jalr_at, branch_at, load_at, store_at, op_imm_at, op_imm_32_at, op_at, op_32_at, misc_mem_at, amo_at, amo_word_at, amo_double_at, system_at};
 
 use crate::Instr;
 use crate::fields::{Fields, split_word};
-use crate::formats::{b_immediate, i_immediate, j_immediate, s_immediate, shift_of, u_immediate};
+use crate::formats::{
+    b_immediate, csr_of, i_immediate, j_immediate, ordering_of, s_immediate, shift_of, u_immediate,
+};
 
 /// The instruction of a word, or `None` where the word is in no row of the listing.
 #[inline(always)]
@@ -52,6 +54,8 @@ fn row_of(word: u32, f: Fields) -> Option<Instr>
         0x33 => op_of(f),
         0x3b => op_32_of(f),
         0x0f => misc_mem_of(word, f),
+        0x2f => amo_of(f),
+        0x73 => system_of(word, f),
         _ => None,
     }
 }
@@ -206,6 +210,14 @@ fn op_of(f: Fields) -> Option<Instr>
         (0x20, 5) => Some(Instr::Sra { rd, rs1, rs2 }),
         (0, 6) => Some(Instr::Or { rd, rs1, rs2 }),
         (0, 7) => Some(Instr::And { rd, rs1, rs2 }),
+        (1, 0) => Some(Instr::Mul { rd, rs1, rs2 }),
+        (1, 1) => Some(Instr::Mulh { rd, rs1, rs2 }),
+        (1, 2) => Some(Instr::Mulhsu { rd, rs1, rs2 }),
+        (1, 3) => Some(Instr::Mulhu { rd, rs1, rs2 }),
+        (1, 4) => Some(Instr::Div { rd, rs1, rs2 }),
+        (1, 5) => Some(Instr::Divu { rd, rs1, rs2 }),
+        (1, 6) => Some(Instr::Rem { rd, rs1, rs2 }),
+        (1, 7) => Some(Instr::Remu { rd, rs1, rs2 }),
         _ => None,
     }
 }
@@ -226,6 +238,11 @@ fn op_32_of(f: Fields) -> Option<Instr>
         (0, 1) => Some(Instr::Sllw { rd, rs1, rs2 }),
         (0, 5) => Some(Instr::Srlw { rd, rs1, rs2 }),
         (0x20, 5) => Some(Instr::Sraw { rd, rs1, rs2 }),
+        (1, 0) => Some(Instr::Mulw { rd, rs1, rs2 }),
+        (1, 4) => Some(Instr::Divw { rd, rs1, rs2 }),
+        (1, 5) => Some(Instr::Divuw { rd, rs1, rs2 }),
+        (1, 6) => Some(Instr::Remw { rd, rs1, rs2 }),
+        (1, 7) => Some(Instr::Remuw { rd, rs1, rs2 }),
         _ => None,
     }
 }
@@ -242,6 +259,205 @@ fn misc_mem_of(word: u32, f: Fields) -> Option<Instr>
     match f.funct3 {
         0 => Some(Instr::Fence { word }),
         1 => Some(Instr::FenceI { word }),
+        _ => None,
+    }
+}
+
+// AMO, by width.
+#[inline(always)]
+#[tactic(auto, unfolding(crate::specs::Table::word_of, crate::specs::Fields::join))]
+fn amo_of(f: Fields) -> Option<Instr>
+    requires fits { Fits f }
+    requires opcode { f.opcode ≡ 0x2f }
+    ensures exact { result ≡ amo_at f }
+    ensures found { IfSome result (λ i. InRange i × (word_of i ≡ join f)) }
+{
+    match f.funct3 {
+        2 => amo_word_of(f),
+        3 => amo_double_of(f),
+        _ => None,
+    }
+}
+
+// AMO with a word.
+#[inline(always)]
+#[tactic(auto, unfolding(crate::specs::Table::word_of, crate::specs::Fields::join))]
+fn amo_word_of(f: Fields) -> Option<Instr>
+    requires fits { Fits f }
+    requires opcode { f.opcode ≡ 0x2f }
+    requires width { f.funct3 ≡ 2 }
+    ensures exact { result ≡ amo_word_at f }
+    ensures found { IfSome result (λ i. InRange i × (word_of i ≡ join f)) }
+{
+    let Fields { rd, rs1, rs2, .. } = f;
+    let ordering = ordering_of(f);
+    match f.funct7 / 4 {
+        0x02 if rs2 == 0 => Some(Instr::LrW { rd, rs1, ordering }),
+        0x03 => Some(Instr::ScW {
+            rd,
+            rs1,
+            rs2,
+            ordering,
+        }),
+        0x01 => Some(Instr::AmoSwapW {
+            rd,
+            rs1,
+            rs2,
+            ordering,
+        }),
+        0x00 => Some(Instr::AmoAddW {
+            rd,
+            rs1,
+            rs2,
+            ordering,
+        }),
+        0x04 => Some(Instr::AmoXorW {
+            rd,
+            rs1,
+            rs2,
+            ordering,
+        }),
+        0x0c => Some(Instr::AmoAndW {
+            rd,
+            rs1,
+            rs2,
+            ordering,
+        }),
+        0x08 => Some(Instr::AmoOrW {
+            rd,
+            rs1,
+            rs2,
+            ordering,
+        }),
+        0x10 => Some(Instr::AmoMinW {
+            rd,
+            rs1,
+            rs2,
+            ordering,
+        }),
+        0x14 => Some(Instr::AmoMaxW {
+            rd,
+            rs1,
+            rs2,
+            ordering,
+        }),
+        0x18 => Some(Instr::AmoMinuW {
+            rd,
+            rs1,
+            rs2,
+            ordering,
+        }),
+        0x1c => Some(Instr::AmoMaxuW {
+            rd,
+            rs1,
+            rs2,
+            ordering,
+        }),
+        _ => None,
+    }
+}
+
+// AMO with a double word.
+#[inline(always)]
+#[tactic(auto, unfolding(crate::specs::Table::word_of, crate::specs::Fields::join))]
+fn amo_double_of(f: Fields) -> Option<Instr>
+    requires fits { Fits f }
+    requires opcode { f.opcode ≡ 0x2f }
+    requires width { f.funct3 ≡ 3 }
+    ensures exact { result ≡ amo_double_at f }
+    ensures found { IfSome result (λ i. InRange i × (word_of i ≡ join f)) }
+{
+    let Fields { rd, rs1, rs2, .. } = f;
+    let ordering = ordering_of(f);
+    match f.funct7 / 4 {
+        0x02 if rs2 == 0 => Some(Instr::LrD { rd, rs1, ordering }),
+        0x03 => Some(Instr::ScD {
+            rd,
+            rs1,
+            rs2,
+            ordering,
+        }),
+        0x01 => Some(Instr::AmoSwapD {
+            rd,
+            rs1,
+            rs2,
+            ordering,
+        }),
+        0x00 => Some(Instr::AmoAddD {
+            rd,
+            rs1,
+            rs2,
+            ordering,
+        }),
+        0x04 => Some(Instr::AmoXorD {
+            rd,
+            rs1,
+            rs2,
+            ordering,
+        }),
+        0x0c => Some(Instr::AmoAndD {
+            rd,
+            rs1,
+            rs2,
+            ordering,
+        }),
+        0x08 => Some(Instr::AmoOrD {
+            rd,
+            rs1,
+            rs2,
+            ordering,
+        }),
+        0x10 => Some(Instr::AmoMinD {
+            rd,
+            rs1,
+            rs2,
+            ordering,
+        }),
+        0x14 => Some(Instr::AmoMaxD {
+            rd,
+            rs1,
+            rs2,
+            ordering,
+        }),
+        0x18 => Some(Instr::AmoMinuD {
+            rd,
+            rs1,
+            rs2,
+            ordering,
+        }),
+        0x1c => Some(Instr::AmoMaxuD {
+            rd,
+            rs1,
+            rs2,
+            ordering,
+        }),
+        _ => None,
+    }
+}
+
+// SYSTEM: the CSR instructions, and four whole words.
+#[inline(always)]
+#[tactic(auto, unfolding(crate::specs::Table::word_of, crate::specs::Fields::join))]
+fn system_of(word: u32, f: Fields) -> Option<Instr>
+    requires fits { Fits f }
+    requires fields { f ≡ split word }
+    requires opcode { f.opcode ≡ 0x73 }
+    ensures exact { result ≡ system_at word f }
+    ensures found { IfSome result (λ i. InRange i × (word_of i ≡ join f)) }
+{
+    let Fields { rd, rs1, .. } = f;
+    let csr = csr_of(f);
+    match (f.funct3, word) {
+        (1, _) => Some(Instr::Csrrw { rd, rs1, csr }),
+        (2, _) => Some(Instr::Csrrs { rd, rs1, csr }),
+        (3, _) => Some(Instr::Csrrc { rd, rs1, csr }),
+        (5, _) => Some(Instr::Csrrwi { rd, uimm: rs1, csr }),
+        (6, _) => Some(Instr::Csrrsi { rd, uimm: rs1, csr }),
+        (7, _) => Some(Instr::Csrrci { rd, uimm: rs1, csr }),
+        (_, 0x0000_0073) => Some(Instr::Ecall),
+        (_, 0x0010_0073) => Some(Instr::Ebreak),
+        (_, 0x3020_0073) => Some(Instr::Mret),
+        (_, 0x1050_0073) => Some(Instr::Wfi),
         _ => None,
     }
 }

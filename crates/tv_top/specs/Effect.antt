@@ -5,7 +5,7 @@ use Rattle.tv_top.specs.declared.hart.operation.Operation.{Operation}
 use Rattle.tv_top.specs.declared.hart.operation.Operation.TheVariants as op
 use Rattle.tv_top.specs.declared.hart.effect.Effect.{Effect}
 use Rattle.tv_top.specs.declared.hart.effect.Effect.TheVariants as effect
-use Rattle.tv_top.specs.Arithmetic.{alu_of, alu_w_of, HasWordForm, branch_of, sign_extended_from}
+use Rattle.tv_exec.specs.Arithmetic.{alu_of, alu_w_of, HasWordForm, branch_of, sign_extended_from}
 
 -- the value of a register; x0 reads 0
 abbrev pub register : List ℕ → ℕ → ℕ
@@ -56,6 +56,7 @@ effect_of (op.WordShift op rd rs1 shamt) x pc = effect.Put rd (alu_w_of op (regi
 effect_of (op.Registers op rd rs1 rs2) x pc = effect.Put rd (alu_of op (register x rs1) (register x rs2))
 effect_of (op.WordRegisters op rd rs1 rs2) x pc = effect.Put rd (alu_w_of op (register x rs1) (register x rs2))
 effect_of op.Fence x pc = effect.Pass
+effect_of op.Unbuilt x pc = effect.Unbuilt
 
 -- registers exist, immediates are within their bits, and a W operation has its form
 abbrev pub FitsOperation : Operation → Type 0
@@ -73,6 +74,7 @@ FitsOperation (op.WordShift op rd rs1 shamt) = (rd < 32) × (rs1 < 32) × HasWor
 FitsOperation (op.Registers op rd rs1 rs2) = (rd < 32) × (rs1 < 32) × (rs2 < 32)
 FitsOperation (op.WordRegisters op rd rs1 rs2) = (rd < 32) × (rs1 < 32) × (rs2 < 32) × HasWordForm op
 FitsOperation op.Fence = Unit {0}
+FitsOperation op.Unbuilt = Unit {0}
 
 -- the register that an effect writes exists
 abbrev pub FitsEffect : Effect → Type 0
@@ -82,3 +84,4 @@ FitsEffect (effect.Goto target) = Unit {0}
 FitsEffect (effect.Load width extension rd addr) = rd < 32
 FitsEffect (effect.Store width addr value) = Unit {0}
 FitsEffect effect.Pass = Unit {0}
+FitsEffect effect.Unbuilt = Unit {0}

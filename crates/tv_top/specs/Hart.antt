@@ -16,7 +16,7 @@ use Rattle.tv_top.specs.declared.place.Loaded.{Loaded}
 use Rattle.tv_top.specs.declared.place.Loaded.TheVariants as loaded
 use Rattle.tv_top.specs.declared.place.Stored.{Stored}
 use Rattle.tv_top.specs.declared.place.Stored.TheVariants as stored
-use Rattle.tv_top.specs.Arithmetic.{sign_extended_from}
+use Rattle.tv_exec.specs.Arithmetic.{sign_extended_from}
 use Rattle.tv_top.specs.Effect.{effect_of, with_register, sum_64}
 use Rattle.tv_top.specs.HartState.{HartState}
 use Rattle.tv_top.specs.Operation.{operation_of}
@@ -73,6 +73,7 @@ carried m hart p (effect.Store width addr value) =
     if addr % width_bytes width == 0 then after_store hart (m.store p hart.number width addr value)
     else (Unbuilt, hart, p)
 carried m hart p effect.Pass = (Retired, at_pc hart (next_pc hart), p)
+carried m hart p effect.Unbuilt = (Unbuilt, hart, p)
 
 -- the row of an instruction; a word without a row is as yet not built
 abbrev pub row : {P : Type 0} → Meaning P → HartState → P → Option Instr → Outcome P

@@ -1,4 +1,3 @@
-pub mod Arithmetic
 pub mod Effect
 pub mod Flat
 pub mod FlatState

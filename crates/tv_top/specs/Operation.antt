@@ -8,7 +8,7 @@ use Rattle.tv_top.specs.declared.hart.operation.Extension.TheVariants as extensi
 use Rattle.tv_top.specs.declared.hart.operation.Operation.{Operation}
 use Rattle.tv_top.specs.declared.hart.operation.Operation.TheVariants as op
 
--- the operation of an instruction
+-- the operation of an instruction; the rows of the extensions M, A and Zicsr and of SYSTEM are as yet not built
 abbrev pub operation_of : Instr → Operation
 operation_of (instr.Lui rd imm) = op.Upper rd imm
 operation_of (instr.Auipc rd imm) = op.UpperFromPc rd imm
@@ -61,3 +61,4 @@ operation_of (instr.Srlw rd rs1 rs2) = op.WordRegisters alu.Srl rd rs1 rs2
 operation_of (instr.Sraw rd rs1 rs2) = op.WordRegisters alu.Sra rd rs1 rs2
 operation_of (instr.Fence word) = op.Fence
 operation_of (instr.FenceI word) = op.Fence
+operation_of _ = op.Unbuilt

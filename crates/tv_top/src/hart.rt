@@ -8,12 +8,12 @@ ghost use Rattle.tv_base.specs.Width.{width_bytes};
 ghost use Rattle.tv_top.specs.Effect.{FitsEffect};
 ghost use Rattle.tv_top.specs.Hart.{first_hart, stepped, carried, put, at_pc, extended};
 
-use crate::arithmetic::sign_extended;
 use crate::place::{Loaded, Place, Stored};
 use effect::{Effect, effect_of_operation};
 use operation::{Extension, operation_of_instr};
 use std::marker::Model;
 use tv_base::{HartNo, Width};
+use tv_exec::sign_extended;
 
 /// Where a machine's harts start, and where its memory does.
 pub const RAM_BASE: u64 = 0x8000_0000;
@@ -23,7 +23,7 @@ pub const RAM_BASE: u64 = 0x8000_0000;
 pub enum Did {
     /// The instruction was carried out.
     Retired,
-    /// It would trap or has no row yet: nothing changed.
+    /// It would trap, or its row isn't carried out yet: nothing changed.
     Unbuilt,
 }
 
@@ -126,6 +126,7 @@ impl Hart {
                 }
             }
             Effect::Pass => self.retire(next, 0, 0),
+            Effect::Unbuilt => Did::Unbuilt,
         }
     }
 

@@ -1,7 +1,6 @@
 //! The commands of tv, over what lies outside the program.
 #![tactic(auto)]
 
-mod arithmetic;
 mod command;
 mod flat;
 mod hart;

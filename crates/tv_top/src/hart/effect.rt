@@ -14,8 +14,8 @@ ghost use Rattle.tv_top.specs.Effect.{
 };
 
 use super::operation::{Extension, Operation};
-use crate::arithmetic::{alu, alu_w, branch, sign_extended};
 use tv_base::Width;
+use tv_exec::{alu, alu_w, branch, sign_extended};
 
 /// What an operation does. Its hart's pc goes on to the next instruction where nothing else is said.
 #[derive(Clone, Copy)]
@@ -32,6 +32,8 @@ pub enum Effect {
     Store(Width, u64, u64),
     /// Nothing.
     Pass,
+    /// What the hart doesn't carry out yet.
+    Unbuilt,
 }
 
 /// The value of a register. Register 0 holds 0.
@@ -152,5 +154,6 @@ pub fn effect_of_operation(operation: Operation, registers: &[u64; 32], pc: u64)
             )
         }
         Operation::Fence => Effect::Pass,
+        Operation::Unbuilt => Effect::Unbuilt,
     }
 }

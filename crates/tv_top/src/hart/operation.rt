@@ -6,7 +6,8 @@ ghost use Rattle.tv_top.specs.Operation.{operation_of};
 ghost use Rattle.tv_top.specs.Effect.{FitsOperation};
 
 use tv_base::Width;
-use tv_isa::{Alu, Branch, Instr};
+use tv_exec::{Alu, Branch};
+use tv_isa::Instr;
 
 /// How a loaded number becomes one of 64 bits.
 #[derive(Clone, Copy)]
@@ -49,6 +50,8 @@ pub enum Operation {
     WordRegisters(Alu, u8, u8, u8),
     /// Nothing: a hart's accesses are made in order.
     Fence,
+    /// A row that the hart doesn't carry out yet.
+    Unbuilt,
 }
 
 /// The operation of an instruction.
@@ -109,5 +112,50 @@ pub fn operation_of_instr(instr: Instr) -> Operation
         Instr::Srlw { rd, rs1, rs2 } => Operation::WordRegisters(Alu::Srl, rd, rs1, rs2),
         Instr::Sraw { rd, rs1, rs2 } => Operation::WordRegisters(Alu::Sra, rd, rs1, rs2),
         Instr::Fence { word: _ } | Instr::FenceI { word: _ } => Operation::Fence,
+        Instr::Mul { .. } => Operation::Unbuilt,
+        Instr::Mulh { .. } => Operation::Unbuilt,
+        Instr::Mulhsu { .. } => Operation::Unbuilt,
+        Instr::Mulhu { .. } => Operation::Unbuilt,
+        Instr::Div { .. } => Operation::Unbuilt,
+        Instr::Divu { .. } => Operation::Unbuilt,
+        Instr::Rem { .. } => Operation::Unbuilt,
+        Instr::Remu { .. } => Operation::Unbuilt,
+        Instr::Mulw { .. } => Operation::Unbuilt,
+        Instr::Divw { .. } => Operation::Unbuilt,
+        Instr::Divuw { .. } => Operation::Unbuilt,
+        Instr::Remw { .. } => Operation::Unbuilt,
+        Instr::Remuw { .. } => Operation::Unbuilt,
+        Instr::LrW { .. } => Operation::Unbuilt,
+        Instr::ScW { .. } => Operation::Unbuilt,
+        Instr::AmoSwapW { .. } => Operation::Unbuilt,
+        Instr::AmoAddW { .. } => Operation::Unbuilt,
+        Instr::AmoXorW { .. } => Operation::Unbuilt,
+        Instr::AmoAndW { .. } => Operation::Unbuilt,
+        Instr::AmoOrW { .. } => Operation::Unbuilt,
+        Instr::AmoMinW { .. } => Operation::Unbuilt,
+        Instr::AmoMaxW { .. } => Operation::Unbuilt,
+        Instr::AmoMinuW { .. } => Operation::Unbuilt,
+        Instr::AmoMaxuW { .. } => Operation::Unbuilt,
+        Instr::LrD { .. } => Operation::Unbuilt,
+        Instr::ScD { .. } => Operation::Unbuilt,
+        Instr::AmoSwapD { .. } => Operation::Unbuilt,
+        Instr::AmoAddD { .. } => Operation::Unbuilt,
+        Instr::AmoXorD { .. } => Operation::Unbuilt,
+        Instr::AmoAndD { .. } => Operation::Unbuilt,
+        Instr::AmoOrD { .. } => Operation::Unbuilt,
+        Instr::AmoMinD { .. } => Operation::Unbuilt,
+        Instr::AmoMaxD { .. } => Operation::Unbuilt,
+        Instr::AmoMinuD { .. } => Operation::Unbuilt,
+        Instr::AmoMaxuD { .. } => Operation::Unbuilt,
+        Instr::Csrrw { .. } => Operation::Unbuilt,
+        Instr::Csrrs { .. } => Operation::Unbuilt,
+        Instr::Csrrc { .. } => Operation::Unbuilt,
+        Instr::Csrrwi { .. } => Operation::Unbuilt,
+        Instr::Csrrsi { .. } => Operation::Unbuilt,
+        Instr::Csrrci { .. } => Operation::Unbuilt,
+        Instr::Ecall => Operation::Unbuilt,
+        Instr::Ebreak => Operation::Unbuilt,
+        Instr::Mret => Operation::Unbuilt,
+        Instr::Wfi => Operation::Unbuilt,
     }
 }

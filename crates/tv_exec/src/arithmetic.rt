@@ -1,7 +1,7 @@
 //! The values of the base instructions' operations (RISC-V Unprivileged ISA, chapters "RV32I" and "RV64I").
 
 ghost use Rattle.std.specs.Prelude.{◌≡◌, ◌<◌, ◌*◌, ◌^◌};
-ghost use Rattle.tv_top.specs.Arithmetic.{alu_of, alu_w_of, HasWordForm, branch_of, sign_extended_from};
+ghost use Rattle.tv_exec.specs.Arithmetic.{alu_of, alu_w_of, HasWordForm, branch_of, sign_extended_from};
 
 use tv_isa::{Alu, Branch};
 

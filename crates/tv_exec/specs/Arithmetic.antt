@@ -16,6 +16,10 @@ sign_extended_from half n = if nat_lt n half then n else n + (2 ^ 64 - 2 * half)
 abbrev pub signed_lt : ℕ → ℕ → Bool
 signed_lt a b = int_lt (cast_signed w64 a) (cast_signed w64 b)
 
+-- a is below b as signed numbers of 32 bits
+abbrev pub word_lt : ℕ → ℕ → Bool
+word_lt a b = int_lt (cast_signed w32 a) (cast_signed w32 b)
+
 -- 1 where the test holds, else 0
 abbrev pub flag : Bool → ℕ
 flag b = if b then 1 else 0

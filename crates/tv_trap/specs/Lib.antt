@@ -1,0 +1,3 @@
+pub mod CsrState
+pub mod Registers
+pub mod Traps
