@@ -1,0 +1,5 @@
+pub mod Answer
+pub mod Numbers
+pub mod Spots
+pub mod Tables
+pub mod Validity

@@ -1,0 +1,139 @@
+-- Places in lists of capabilities.
+use Rattle.std.proofs.Common.{◌≡◌, ◌<◌, ◌≤◌, ℕ, zero, suc, ◌+◌, ◌-◌, Bool, true, false, List, [], ◌∷◌, ◌++◌, map, length, refl, arith, Option, Some, None, slice_set, slice_index_or, ap, ◌∙◌, sym, drop}
+use Rattle.std.specs.Prelude.{slice_get, option_and_then, option_to_list}
+use Rattle.std.proofs.lemmas.List.{drop_more}
+use Rattle.std.proofs.lemmas.Option.{slice_get-get_or}
+use Rattle.tv_machine_file.specs.declared.kinds.DeviceSpec.{DeviceSpec}
+use Rattle.tv_machine_file.specs.declared.capabilities.Spot.{Spot}
+use Rattle.tv_machine_file.specs.declared.capabilities.Spot.TheVariants as spot
+use Rattle.tv_machine_file.specs.Capabilities.{Capability, memory, disk, output, input, source, spot_of, spot_at, resized_at, sectors_at, slot_of_disk, device_capabilities, source_capability}
+
+-- a place among the first ones
+pub spot-among : {A : Type 0} (f : A → Capability) (s : Spot) (xs : List A) (rest : List Capability) (at : ℕ)
+    → ((x : A) → spot_of (f x) ≡ s) → at < length xs → spot_at (map f xs ++ rest) at ≡ s
+spot-among f s [] rest at each below = absurd (omega arith)
+spot-among f s (x ∷ xs) rest zero each below = each x
+spot-among f s (x ∷ xs) rest (suc at) each below = spot-among f s xs rest at each (omega arith)
+
+-- a place past the first ones
+pub spot-past : {A : Type 0} (f : A → Capability) (xs : List A) (rest : List Capability) (at : ℕ)
+    → length xs ≤ at → spot_at (map f xs ++ rest) at ≡ spot_at rest (at - length xs)
+spot-past f [] rest at past = let e : at - 0 ≡ at = omega arith in rw e
+spot-past f (x ∷ xs) rest zero past = absurd (omega arith)
+spot-past f (x ∷ xs) rest (suc at) past =
+    let e : suc at - suc (length xs) ≡ at - length xs = omega arith in
+    rw e (spot-past f xs rest at (omega arith))
+
+-- the slot of a capability
+abbrev pub slot_of : Capability → ℕ
+slot_of (memory slot range) = slot
+slot_of (disk slot name) = slot
+slot_of (output slot name) = slot
+slot_of (input slot name) = slot
+slot_of (source slot) = slot
+
+-- capabilities of one slot
+abbrev pub AreOf : ℕ → List Capability → Type 0
+AreOf slot [] = Unit {0}
+AreOf slot (c ∷ caps) = (slot_of c ≡ slot) × AreOf slot caps
+
+of-map : {A : Type 0} (slot : ℕ) (f : A → Capability) (xs : List A) (rest : List Capability)
+    → ((x : A) → slot_of (f x) ≡ slot) → AreOf slot rest → AreOf slot (map f xs ++ rest)
+of-map slot f [] rest each more = more
+of-map slot f (x ∷ xs) rest each more = (each x, of-map slot f xs rest each more)
+
+of-source : (slot : ℕ) (irq : Bool) → AreOf slot (source_capability slot irq)
+of-source slot false = tt
+of-source slot true = (refl, tt)
+
+-- a device's capabilities are of its slot
+pub of-device : (slot : ℕ) (d : DeviceSpec) → AreOf slot (device_capabilities slot d)
+of-device slot d =
+    of-map slot (memory slot) d.mem _ (λ _. refl) (of-map slot (disk slot) (option_to_list d.disk) _ (λ _. refl)
+    (of-map slot (output slot) (option_to_list d.output) _ (λ _. refl) (of-map slot (input slot) (option_to_list d.input) _ (λ _. refl)
+    (of-source slot d.irq))))
+
+disk-of : (slot : ℕ) (c : Capability) → slot_of c ≡ slot → spot_of c ≡ spot.Disk → slot_of_disk c ≡ Some slot
+disk-of slot (disk s name) own is = ap Some own
+disk-of slot (memory s range) own is = absurd (cc)
+disk-of slot (output s name) own is = absurd (cc)
+disk-of slot (input s name) own is = absurd (cc)
+disk-of slot (source s) own is = absurd (cc)
+
+other-of : (c : Capability) → spot_of c ≡ spot.Other → slot_of_disk c ≡ None
+other-of (disk s name) is = absurd (cc)
+other-of (memory s range) is = refl
+other-of (output s name) is = refl
+other-of (input s name) is = refl
+other-of (source s) is = refl
+
+-- the slot of the disk at a number
+abbrev pub found : List Capability → ℕ → Option ℕ
+found caps at = option_and_then slot_of_disk (slice_get caps at)
+
+pub found-disk : (slot : ℕ) (caps rest : List Capability) (at : ℕ) → AreOf slot caps → spot_at caps at ≡ spot.Disk → found (caps ++ rest) at ≡ Some slot
+found-disk slot [] rest at own is = absurd (cc)
+found-disk slot (c ∷ caps) rest zero own is = disk-of slot c own.0 is
+found-disk slot (c ∷ caps) rest (suc at) own is = found-disk slot caps rest at own.1 is
+
+pub found-other : (caps rest : List Capability) (at : ℕ) → spot_at caps at ≡ spot.Other → found (caps ++ rest) at ≡ None
+found-other [] rest at is = absurd (cc)
+found-other (c ∷ caps) rest zero is = other-of c is
+found-other (c ∷ caps) rest (suc at) is = found-other caps rest at is
+
+pub found-after : (caps rest : List Capability) (at past : ℕ) → spot_at caps at ≡ spot.After past → found (caps ++ rest) at ≡ found rest past
+found-after [] rest at past is = let e : at ≡ past = cc in rw e
+found-after (memory s range ∷ caps) rest zero past is = absurd (cc)
+found-after (disk s name ∷ caps) rest zero past is = absurd (cc)
+found-after (output s name ∷ caps) rest zero past is = absurd (cc)
+found-after (input s name ∷ caps) rest zero past is = absurd (cc)
+found-after (source s ∷ caps) rest zero past is = absurd (cc)
+found-after (c ∷ caps) rest (suc at) past is = found-after caps rest at past is
+
+abbrev pub after_disk : ℕ → DeviceSpec → List Capability
+after_disk slot d = map (output slot) (option_to_list d.output) ++ (map (input slot) (option_to_list d.input) ++ source_capability slot d.irq)
+
+-- the steps from one kind of capability to the next, over how many there are of each
+module _ (slot : ℕ) (d : DeviceSpec) (at ranges disks outputs inputs : ℕ) (r : ranges ≡ length d.mem) (k : disks ≡ length (option_to_list d.disk))
+    (o : outputs ≡ length (option_to_list d.output)) (i : inputs ≡ length (option_to_list d.input)) where
+  pub in-ranges : at < ranges → spot.Other ≡ spot_at (device_capabilities slot d) at
+  in-ranges below = sym (spot-among (memory slot) spot.Other d.mem _ at (λ _. refl) (omega arith))
+
+  pub past-ranges : ranges ≤ at → spot_at (device_capabilities slot d) at ≡ spot_at (map (disk slot) (option_to_list d.disk) ++ after_disk slot d) (at - ranges)
+  past-ranges past = rw r (spot-past (memory slot) d.mem _ at (omega arith))
+
+  pub in-disk : ranges ≤ at → at - ranges < disks → spot.Disk ≡ spot_at (device_capabilities slot d) at
+  in-disk past below = rw (past-ranges past) (sym (spot-among (disk slot) spot.Disk (option_to_list d.disk) _ _ (λ _. refl) (omega arith)))
+
+  pub past-disk : ranges ≤ at → disks ≤ at - ranges → spot_at (device_capabilities slot d) at ≡ spot_at (after_disk slot d) (at - ranges - disks)
+  past-disk past more = past-ranges past ∙ rw k (spot-past (disk slot) (option_to_list d.disk) _ _ (omega arith))
+
+  pub in-output : ranges ≤ at → disks ≤ at - ranges → at - ranges - disks < outputs → spot.Other ≡ spot_at (device_capabilities slot d) at
+  in-output past more below = rw (past-disk past more) (sym (spot-among (output slot) spot.Other (option_to_list d.output) _ _ (λ _. refl) (omega arith)))
+
+  pub past-output : ranges ≤ at → disks ≤ at - ranges → outputs ≤ at - ranges - disks
+      → spot_at (device_capabilities slot d) at ≡ spot_at (map (input slot) (option_to_list d.input) ++ source_capability slot d.irq) (at - ranges - disks - outputs)
+  past-output past more yet = past-disk past more ∙ rw o (spot-past (output slot) (option_to_list d.output) _ _ (omega arith))
+
+  pub in-input : ranges ≤ at → disks ≤ at - ranges → outputs ≤ at - ranges - disks → at - ranges - disks - outputs < inputs
+      → spot.Other ≡ spot_at (device_capabilities slot d) at
+  in-input past more yet below = rw (past-output past more yet) (sym (spot-among (input slot) spot.Other (option_to_list d.input) _ _ (λ _. refl) (omega arith)))
+
+  pub past-input : ranges ≤ at → disks ≤ at - ranges → outputs ≤ at - ranges - disks → inputs ≤ at - ranges - disks - outputs
+      → spot_at (device_capabilities slot d) at ≡ spot_at (source_capability slot d.irq) (at - ranges - disks - outputs - inputs)
+  past-input past more yet last = past-output past more yet ∙ rw i (spot-past (input slot) (option_to_list d.input) _ _ (omega arith))
+
+-- the devices from a slot on
+pub drop-next : (ds : List DeviceSpec) (slot : ℕ) (d : DeviceSpec) → slot < length ds → d ≡ slice_index_or ds slot d → drop slot ds ≡ d ∷ drop (slot + 1) ds
+drop-next ds slot d below is = drop_more ds slot d below ∙ ap (λ (x : DeviceSpec). x ∷ drop (slot + 1) ds) (sym is)
+
+-- the sectors in a slot
+pub sectors-at : (ds : List DeviceSpec) (slot : ℕ) (d : DeviceSpec) → slot < length ds → Some (slice_index_or ds slot d).sectors ≡ sectors_at ds slot
+sectors-at ds slot d below = rw (slice_get-get_or ds slot d below)
+
+-- setting a number of sectors in place
+pub resized-set : (slot n : ℕ) (ds : List DeviceSpec) (d : DeviceSpec) → slot < length ds → d ≡ slice_index_or ds slot d
+    → slice_set ds slot (record d { sectors = n }) ≡ resized_at slot n ds
+resized-set slot n [] d below is = absurd (omega arith)
+resized-set zero n (x ∷ ds) d below is = ap (λ (y : DeviceSpec). record y { sectors = n } ∷ ds) is
+resized-set (suc slot) n (x ∷ ds) d below is = ap (λ t. x ∷ t) (resized-set slot n ds d (omega arith) is)

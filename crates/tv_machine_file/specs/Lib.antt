@@ -1,0 +1,5 @@
+pub mod Capabilities
+pub mod Keys
+pub mod MachineFiles
+pub mod Machines
+pub mod Valid
