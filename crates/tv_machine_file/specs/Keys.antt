@@ -3,7 +3,8 @@ use Rattle.std.specs.Prelude.{◌≡◌, ◌≢◌, ℕ, ◌%◌, ◌&&◌, ◌|
 use Rattle.std.specs.Prelude.{String}
 use Rattle.std.specs.BTreeMap.{BTreeMap}
 use Rattle.std.specs.declared.alloc.Global.{Global}
-use Rattle.std.specs.Cmp.Lexicographic.{pointwise}
+use Rattle.std.specs.Cmp.Lexicographic.{pointwise, slice_cmp}
+use Rattle.std.specs.Ordering.{nat_cmp, match_ordering}
 use Rattle.toml.specs.declared.value.Value.{Value}
 use Rattle.toml.specs.View.{table_view}
 use Rattle.toml.specs.Data.{Data, as_str, as_integer, Members, no_members, member, get_member}
@@ -56,19 +57,34 @@ abbrev pub is_among : List ℕ → List (List ℕ) → Bool
 is_among text [] = false
 is_among text (x ∷ xs) = same_text text x || is_among text xs
 
--- the keys of a table, which stand in the order of their bytes
+-- the keys of a table
 abbrev pub keys_in : Members → List (List ℕ)
 keys_in no_members = []
 keys_in (member key d ms) = key ∷ keys_in ms
 
--- the faults of those of these keys that the table at a path doesn't know
-abbrev pub unknown_keys : TableKind → List ℕ → List (List ℕ) → List FileFault
-unknown_keys kind path [] = []
-unknown_keys kind path (key ∷ keys) =
-    if is_among key (known_keys kind) then unknown_keys kind path keys else Unknown (key_path path key) ∷ unknown_keys kind path keys
+-- of a text and another, if there is one, the one that comes first in the order of their bytes
+abbrev pub lesser : List ℕ → Option (List ℕ) → List ℕ
+lesser text None = text
+lesser text (Some other) = match_ordering (slice_cmp nat_cmp text other) text text other
 
+-- the least of some texts, in the order of their bytes
+abbrev pub least : List (List ℕ) → Option (List ℕ)
+least [] = None
+least (text ∷ texts) = Some (lesser text (least texts))
+
+-- those of these keys that a table doesn't know
+abbrev pub unknown_keys : TableKind → List (List ℕ) → List (List ℕ)
+unknown_keys kind [] = []
+unknown_keys kind (key ∷ keys) = if is_among key (known_keys kind) then unknown_keys kind keys else key ∷ unknown_keys kind keys
+
+-- the fault of an unknown key in the table at a path
+abbrev pub unknown_fault : List ℕ → Option (List ℕ) → List FileFault
+unknown_fault path None = []
+unknown_fault path (Some key) = Unknown (key_path path key) ∷ []
+
+-- the fault of the least key that the table at a path doesn't know
 abbrev pub unknown_faults : TableKind → List ℕ → Members → List FileFault
-unknown_faults kind path t = unknown_keys kind path (keys_in t)
+unknown_faults kind path t = unknown_fault path (least (unknown_keys kind (keys_in t)))
 
 -- the fault of a value that is out of range
 abbrev pub range_fault : Bool → List ℕ → List FileFault

@@ -100,7 +100,7 @@ abbrev pub devices_faults : List ℕ → Option Data → List FileFault
 devices_faults path None = []
 devices_faults path (Some d) = slots_faults path (as_array d)
 
--- all faults of a machine file: the keys that it doesn't know, and then those of its keys in their order
+-- the faults of a machine file in their order: the least key that it doesn't know, and then those of its keys
 abbrev pub file_faults : Members → List FileFault
 file_faults t =
     unknown_faults table_kind.File [] t ++ (name_faults 255 (codes "image") (get_member (codes "image") t)

@@ -30,7 +30,7 @@ pub fn read_control(alloc: Global, table: &Table) -> Result<NameList, FileFault>
             Some(items) => read_sockets(alloc, items.as_slice()),
             None => Err(broken(alloc, Rule::Kind, "", "control")),
         },
-        None => Ok(NameList::new(alloc)),
+        None => Ok(NameList::new()),
     }
 }
 
@@ -53,10 +53,10 @@ fn read_each(alloc: Global, items: &[Value]) -> Result<NameList, FileFault>
     ensures value { IfOk result (λ names. names ≡ texts_in (items_view items.now)) }
     ensures fault { IfErr result (Tells (socket_faults (codes "control") 0 [] (items_view items.now))) }
 {
-    let mut names = NameList::new(alloc);
+    let mut names = NameList::new();
     for place in 0..items.len() {
         match read_socket(alloc, &items[place], place, &names) {
-            Ok(name) => match names.push(name) {
+            Ok(name) => match names.push(alloc, name) {
                 Ok(()) => {}
                 Err(_) => return Err(FileFault::Memory),
             },

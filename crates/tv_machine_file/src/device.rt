@@ -27,7 +27,7 @@ pub fn read_devices(alloc: Global, table: &Table) -> Result<DeviceList, FileFaul
             Some(items) => read_slots(alloc, items.as_slice()),
             None => Err(broken(alloc, Rule::Kind, "", "device")),
         },
-        None => Ok(DeviceList::new(alloc)),
+        None => Ok(DeviceList::new()),
     }
 }
 
@@ -42,7 +42,7 @@ fn read_slots(alloc: Global, items: &[Value]) -> Result<DeviceList, FileFault>
         return Err(broken(alloc, Rule::Range, "", "device"));
     }
     if items.is_empty() {
-        return Ok(DeviceList::new(alloc));
+        return Ok(DeviceList::new());
     }
     Err(device_fault(alloc, &items[0], 0))
 }

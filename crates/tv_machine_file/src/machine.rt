@@ -36,7 +36,7 @@ pub struct Machine {
 
 impl Machine {
     /// The machine that is told by its image alone: one hart, 16 MiB of memory, no line and no device.
-    pub fn new(alloc: Global, image: KeyText) -> Machine
+    pub fn new(image: KeyText) -> Machine
         ensures machine { result ≡ plain_machine image }
         ensures valid { IsFileName image → IsValid result }
     {
@@ -48,8 +48,8 @@ impl Machine {
             journal_entries: 0x10_0000,
             journal_bytes: 0x400_0000,
             tube: 64,
-            control: NameList::new(alloc),
-            device: DeviceList::new(alloc),
+            control: NameList::new(),
+            device: DeviceList::new(),
         }
     }
 
@@ -64,7 +64,7 @@ impl Machine {
     {
         match KeyText::new(alloc, "image") {
             Ok(image) => {
-                let mut machine = Machine::new(alloc, image);
+                let mut machine = Machine::new(image);
                 machine.ram = 0x10_0000;
                 Ok(machine)
             }
@@ -89,6 +89,7 @@ impl Machine {
         requires { sectors ≤ 2 ^ 31 }
         ensures disk { IsTrue result ↔ IsSome (disk_slot_of self.old cap) }
         ensures machine { self.new ≡ resized self.old cap sectors }
+        ensures valid { IsValid self.old → IsValid self.new }
     {
         match disk_slot(self.device.as_slice(), usize::from(cap.get())) {
             Some(slot) => {

@@ -29,6 +29,7 @@ fn first_fault_is_told(rt: HostRuntime) -> Result<(), Fail> {
         ("image = \"a\"\nvcpus = 1", "unknown", "vcpus"),
         ("ram = 1\nvcpus = 1\nb = 2", "unknown", "b"),
         ("image = \"a\"\nharts = 9", "range", "harts"),
+        ("image = \"a\"\nharts = 0\nram = 1", "range", "ram"),
         ("image = \"a\"\nsteps = 100000001", "range", "steps"),
         (
             "image = \"a\"\njournal_entries = 0",
@@ -57,7 +58,17 @@ fn first_fault_is_told(rt: HostRuntime) -> Result<(), Fail> {
         ("image = \"a\"\ndevice = 5", "kind", "device"),
         ("image = \"a\"\ndevice = [5]", "kind", "device.0"),
         (
+            "image = \"a\"\ndevice = [5, 5, 5, 5, 5, 5, 5, 5, 5]",
+            "range",
+            "device",
+        ),
+        (
             "image = \"a\"\n[[device]]\nkind = \"gpu\"",
+            "range",
+            "device.0.kind",
+        ),
+        (
+            "image = \"a\"\n[[device]]\nkind = \"block\"\noutput = 5",
             "range",
             "device.0.kind",
         ),
@@ -125,7 +136,7 @@ fn disks_have_sectors(rt: HostRuntime) -> Result<(), Fail> {
         let Ok(spec) = device(alloc, kind) else {
             return Err(Fail::from("memory"));
         };
-        assert!(rt; machine.device.push(spec).is_ok());
+        assert!(rt; machine.device.push(alloc, spec).is_ok());
     }
     // The console has a range, an output and an interrupt source; the disk's number comes after the next range.
     let disk = CapNo::new(4);
@@ -141,13 +152,16 @@ fn disks_have_sectors(rt: HostRuntime) -> Result<(), Fail> {
 
 /// A device with one range, one file and an interrupt source.
 fn device(alloc: Global, kind: DeviceKind) -> Result<DeviceSpec, tv_base::Memory> {
-    let mut mem = RangeList::new(alloc);
+    let mut mem = RangeList::new();
     let file = KeyText::new(alloc, "file")?;
-    mem.push(MemRange {
-        base: 0x8000_0000,
-        len: 4096,
-        rights: Rights::READ,
-    })?;
+    mem.push(
+        alloc,
+        MemRange {
+            base: 0x8000_0000,
+            len: 4096,
+            rights: Rights::READ,
+        },
+    )?;
     let (disk, output) = match kind {
         DeviceKind::Block => (Some(file), None),
         _ => (None, Some(file)),
