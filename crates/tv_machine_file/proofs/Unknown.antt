@@ -5,7 +5,6 @@ use Rattle.std.specs.List.{AllByRecursion}
 use Rattle.std.specs.List.Sorted.{IsStrictlySortedBy}
 use Rattle.std.specs.Ordering.{match_ordering}
 use Rattle.std.specs.String.{string_cmp}
-use Rattle.tv_machine_file.specs.declared.fault.FileFault.{FileFault}
 use Rattle.tv_machine_file.specs.declared.fault.FileFault.TheVariants.{Unknown}
 use Rattle.tv_machine_file.specs.declared.keys.TableKind.{TableKind}
 use Rattle.tv_machine_file.specs.Keys.{is_among, known_keys, key_path, least, lesser, unknown_keys, unknown_fault}

@@ -11,8 +11,7 @@ pub returns-then-not-is_known-clause-fault : goal.returns-then-not-is_known-clau
 returns-then-not-is_known-clause-fault c =
     let step : c.loop-key.key-iterator ≡ c.in-Some.key.now ∷ c.next.new.self = search rules in
     let unknown : is_among (string_bytes c.in-Some.key.now) (known_keys c.args.kind) ≡ false = search rules in
-    let fault = first_unknown c.args.kind c.args.path.now c.in-Some.key.now c.next.new.self (subst (IsStrictlySortedBy string_cmp) step c.loop-key.invariant.sorted) unknown in
-    (
+    let fault = first_unknown c.args.kind c.args.path.now c.in-Some.key.now c.next.new.self (subst (IsStrictlySortedBy string_cmp) step c.loop-key.invariant.sorted) unknown in (
       c.broken.ensures.key,
       λ n. rw (c.loop-key.invariant.unknown, step, fault)
           (sym (ap Some (c.broken.ensures.fault n ∙ ap (λ text. Unknown (key_path c.args.path.now text)) c.as_str-then-not-is_known.ensures.value))),
