@@ -62,14 +62,9 @@ impl Machine {
         ensures machine { IfOk result (λ machine. machine ≡ flat_machine) }
         ensures valid { IfOk result IsValid }
     {
-        match KeyText::new(alloc, "image") {
-            Ok(image) => {
-                let mut machine = Machine::new(image);
-                machine.ram = 0x10_0000;
-                Ok(machine)
-            }
-            Err(memory) => Err(memory),
-        }
+        let mut machine = Machine::new(KeyText::new(alloc, "image")?);
+        machine.ram = 0x10_0000;
+        Ok(machine)
     }
 
     /// How many sectors the disk with this capability number has; `None` exactly where it is no disk's.

@@ -86,46 +86,16 @@ fn read_table(alloc: Global, table: &Table) -> Result<Machine, FileFault>
     ensures value { IfOk result (λ machine. machine ≡ machine_of (table_view table.now)) }
     ensures fault { IfErr result (Tells (file_faults (table_view table.now))) }
 {
-    match check_known(alloc, table, TableKind::File, "") {
-        Ok(()) => {}
-        Err(fault) => return Err(fault),
-    }
-    let image = match name(alloc, table, "", "image", FILE_NAME_BYTES) {
-        Ok(image) => image,
-        Err(fault) => return Err(fault),
-    };
-    let ram = match number(alloc, table, "", "ram", &RAM) {
-        Ok(ram) => ram,
-        Err(fault) => return Err(fault),
-    };
-    let harts = match number(alloc, table, "", "harts", &HARTS) {
-        Ok(harts) => harts as u8,
-        Err(fault) => return Err(fault),
-    };
-    let steps = match number(alloc, table, "", "steps", &STEPS) {
-        Ok(steps) => steps,
-        Err(fault) => return Err(fault),
-    };
-    let journal_entries = match number(alloc, table, "", "journal_entries", &JOURNAL_ENTRIES) {
-        Ok(entries) => entries,
-        Err(fault) => return Err(fault),
-    };
-    let journal_bytes = match number(alloc, table, "", "journal_bytes", &JOURNAL_BYTES) {
-        Ok(bytes) => bytes,
-        Err(fault) => return Err(fault),
-    };
-    let tube = match number(alloc, table, "", "tube", &TUBE) {
-        Ok(tube) => tube as u16,
-        Err(fault) => return Err(fault),
-    };
-    let control = match read_control(alloc, table) {
-        Ok(control) => control,
-        Err(fault) => return Err(fault),
-    };
-    let device = match read_devices(alloc, table) {
-        Ok(device) => device,
-        Err(fault) => return Err(fault),
-    };
+    check_known(alloc, table, TableKind::File, "")?;
+    let image = name(alloc, table, "", "image", FILE_NAME_BYTES)?;
+    let ram = number(alloc, table, "", "ram", &RAM)?;
+    let harts = number(alloc, table, "", "harts", &HARTS)? as u8;
+    let steps = number(alloc, table, "", "steps", &STEPS)?;
+    let journal_entries = number(alloc, table, "", "journal_entries", &JOURNAL_ENTRIES)?;
+    let journal_bytes = number(alloc, table, "", "journal_bytes", &JOURNAL_BYTES)?;
+    let tube = number(alloc, table, "", "tube", &TUBE)? as u16;
+    let control = read_control(alloc, table)?;
+    let device = read_devices(alloc, table)?;
     Ok(Machine {
         image,
         ram,
