@@ -11,9 +11,9 @@ IsRamSize bytes = (65536 ≤ bytes) × (bytes ≤ 268435456) × (bytes % 4096 �
 abbrev pub ram_base : ℕ
 ram_base = 0x80000000
 
--- the place of an address, counted from the first byte
-abbrev pub place_of : ℕ → ℕ
-place_of addr = addr - ram_base
+-- the offset of an address from the first byte
+abbrev pub ram_offset : ℕ → ℕ
+ram_offset addr = addr - ram_base
 
 -- whether each of n bytes from an address on lies in memory of so many bytes; of no bytes, each does
 abbrev pub is_inside : ℕ → ℕ → ℕ → Bool
@@ -29,12 +29,12 @@ zeros n = replicate n 0
 
 -- the n bytes from an address on
 abbrev pub bytes_at : List ℕ → ℕ → ℕ → List ℕ
-bytes_at ram addr n = take n (drop (place_of addr) ram)
+bytes_at ram addr n = take n (drop (ram_offset addr) ram)
 
 -- memory with these bytes from an address on
 abbrev pub with_bytes : List ℕ → ℕ → List ℕ → List ℕ
 with_bytes ram addr bytes =
-    take (place_of addr) ram ++ (bytes ++ drop (length bytes) (drop (place_of addr) ram))
+    take (ram_offset addr) ram ++ (bytes ++ drop (length bytes) (drop (ram_offset addr) ram))
 
 -- the address of a page's first byte; pages are numbered by address
 abbrev pub page_base : ℕ → ℕ
@@ -46,7 +46,7 @@ with_zero_page ram page = with_bytes ram (page_base page) (zeros 4096)
 
 -- the number in the n bytes from an address on
 abbrev pub number_at : List ℕ → ℕ → ℕ → ℕ
-number_at ram addr n = little_number n (drop (place_of addr) ram)
+number_at ram addr n = little_number n (drop (ram_offset addr) ram)
 
 -- the number that a load of n bytes finds; none where a byte lies outside
 abbrev pub loaded : List ℕ → ℕ → ℕ → Option ℕ

@@ -5,7 +5,7 @@ ghost use Rattle.std.specs.Bool.{OnTrue, OnFalse};
 ghost use Rattle.tv_base.specs.Width.{width_bytes};
 ghost use Rattle.byteorder.specs.Endian.{little_number, little_bytes};
 ghost use Rattle.tv_ram.specs.Memory.{
-  place_of,
+  ram_offset,
   is_inside,
   bytes_at,
   with_bytes,
@@ -17,17 +17,17 @@ ghost use Rattle.tv_ram.specs.Memory.{
 use byteorder::{ByteOrder, LittleEndian};
 use tv_base::{RAM_BASE, Width};
 
-/// The place of the first of `n` bytes from an address on; `None` where one of them lies outside.
+/// The offset of the first of `n` bytes from an address on; `None` where one of them lies outside.
 #[inline(always)]
-fn find_place(held: &[u8], addr: u64, n: usize) -> Option<usize>
+fn find_offset(held: &[u8], addr: u64, n: usize) -> Option<usize>
     requires some { 0 < n }
     requires fits { n ≤ length held.now }
-    ensures { result ≡ (if is_inside (length held.now) addr n then Some (place_of addr) else None) }
+    ensures { result ≡ (if is_inside (length held.now) addr n then Some (ram_offset addr) else None) }
 {
-    // An address below memory wraps round to a place beyond every byte.
-    let place = addr.wrapping_sub(RAM_BASE);
-    if place <= (held.len() - n) as u64 {
-        Some(place as usize)
+    // An address below memory wraps round to an offset beyond every byte.
+    let offset = addr.wrapping_sub(RAM_BASE);
+    if offset <= (held.len() - n) as u64 {
+        Some(offset as usize)
     } else {
         None
     }
@@ -46,9 +46,9 @@ pub fn read_at(held: &[u8], addr: u64, out: &mut [u8]) -> bool
     if n > held.len() {
         return false;
     }
-    match find_place(held, addr, n) {
-        Some(place) => {
-            out.copy_from_slice(&held[place..place + n]);
+    match find_offset(held, addr, n) {
+        Some(offset) => {
+            out.copy_from_slice(&held[offset..offset + n]);
             true
         }
         None => false,
@@ -68,9 +68,9 @@ pub fn write_at(held: &mut [u8], addr: u64, bytes: &[u8]) -> bool
     if n > held.len() {
         return false;
     }
-    match find_place(held, addr, n) {
-        Some(place) => {
-            held[place..place + n].copy_from_slice(bytes);
+    match find_offset(held, addr, n) {
+        Some(offset) => {
+            held[offset..offset + n].copy_from_slice(bytes);
             true
         }
         None => false,
@@ -92,8 +92,8 @@ pub fn load_at(held: &[u8], addr: u64, width: Width) -> Option<u64>
     ensures number { result ≡ loaded held.now addr (width_bytes width) }
     ensures fits { IfSome result (λ value. value < 256 ^ width_bytes width) }
 {
-    match find_place(held, addr, usize::from(width.bytes())) {
-        Some(place) => Some(read_number(&held[place..], width)),
+    match find_offset(held, addr, usize::from(width.bytes())) {
+        Some(offset) => Some(read_number(&held[offset..], width)),
         None => None,
     }
 }
@@ -104,8 +104,8 @@ pub fn word_at(held: &[u8], addr: u64) -> Option<u32>
     requires { 4 ≤ length held.now }
     ensures { result ≡ loaded held.now addr 4 }
 {
-    match find_place(held, addr, 4) {
-        Some(place) => Some(LittleEndian::read_u32(&held[place..])),
+    match find_offset(held, addr, 4) {
+        Some(offset) => Some(LittleEndian::read_u32(&held[offset..])),
         None => None,
     }
 }
@@ -118,9 +118,9 @@ pub fn store_at(held: &mut [u8], addr: u64, width: Width, value: u64) -> bool
     ensures stored { OnTrue result (held.new ≡ with_number held.old addr (width_bytes width) value) }
     ensures unchanged { OnFalse result (held.new ≡ held.old) }
 {
-    match find_place(held, addr, usize::from(width.bytes())) {
-        Some(place) => {
-            write_number(&mut held[place..], width, value);
+    match find_offset(held, addr, usize::from(width.bytes())) {
+        Some(offset) => {
+            write_number(&mut held[offset..], width, value);
             true
         }
         None => false,
