@@ -1,3 +1,4 @@
+pub mod AtOnce
 pub mod Pieces
 pub mod Runs
 pub mod Said

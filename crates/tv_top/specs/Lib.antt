@@ -1,12 +1,6 @@
-pub mod Effect
 pub mod Flat
 pub mod FlatState
-pub mod Hart
-pub mod HartState
 pub mod Map
-pub mod Operation
-pub mod Place
-pub mod Ram
 pub mod Run
 pub mod Answers
 pub mod CommandLine

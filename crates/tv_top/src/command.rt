@@ -7,13 +7,13 @@ ghost use Rattle.tv_top.specs.Texts.{refusal_status};
 
 use crate::STEPS;
 use crate::flat::Flat;
-use crate::hart::Hart;
 use crate::map::FLAT_RAM_BYTES;
-use crate::ram::Ram;
 use crate::run::{End, Machine, run_machine};
 use std::alloc::Global;
-use tv_base::{HartNo, Memory};
+use tv_base::{HartNo, Memory, RAM_BASE};
+use tv_hart::Hart;
 use tv_out::{LoadFault, Sink, Store};
+use tv_ram::Ram;
 
 /// Why a command was not carried out to its end.
 #[derive(Clone, Copy)]
@@ -72,16 +72,21 @@ pub fn run_flat<S: Store, O: Sink>(
 }
 
 /// The flat machine before its first event.
-#[tactic(auto, unfolding(crate::specs::Run::first_machine))]
+#[tactic(auto, using(tv_ram::proofs::Inside::image_written, tv_ram::proofs::Inside::length_zeros), unfolding(crate::specs::Run::first_machine))]
 fn flat_machine(alloc: Global, image: &[u8]) -> Result<Machine, Memory>
     requires { length image.now ≤ FLAT_RAM_BYTES }
-    ensures { IfOk result (λ machine. machine ≡ first_machine image.now) }
+    ensures first { IfOk result (λ machine. machine ≡ first_machine image.now) }
+    ensures waits { IfOk result (λ machine. machine.hart.waits ≡ None) }
 {
-    match Ram::with_image(alloc, FLAT_RAM_BYTES, image) {
-        Ok(ram) => Ok(Machine {
-            hart: Hart::new(HartNo::FIRST),
-            place: Flat::new(ram),
-        }),
-        Err(memory) => Err(memory),
+    match Ram::new(alloc, FLAT_RAM_BYTES as u32) {
+        Ok(mut ram) => {
+            let fits = ram.write(RAM_BASE, image);
+            prove!(fits);
+            Ok(Machine {
+                hart: Hart::new(HartNo::FIRST),
+                place: Flat::new(ram),
+            })
+        }
+        Err(_) => Err(Memory),
     }
 }

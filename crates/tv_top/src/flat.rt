@@ -3,11 +3,11 @@
 ghost use Rattle.std.specs.Prelude.{◌≡◌, length};
 ghost use Rattle.tv_top.specs.Flat.{finish, finish_by};
 
-use crate::map::{FLAT_RAM_BYTES, Target, find};
-use crate::place::{Loaded, Place, Stored};
-use crate::ram::Ram;
+use crate::map::{FLAT_RAM_BYTES, Port, find_port};
 use std::marker::Model;
 use tv_base::{HartNo, Width};
+use tv_hart::{Loaded, Place, Stored};
+use tv_ram::Ram;
 
 /// What a store to the finisher asks for.
 #[derive(Clone, Copy)]
@@ -78,28 +78,29 @@ impl Place for Flat {
     ghost meaning = { flat_meaning };
 
     #[inline(always)]
-    fn fetch(&self, addr: u64) -> Option<u32> {
-        match find(addr, Width::B4) {
-            Some((Target::Ram, at)) => Some(self.ram.word(at as usize)),
-            Some((Target::Finisher | Target::Debug, _)) | None => None,
-        }
+    fn fetch(&mut self, addr: u64) -> Option<u32> {
+        self.ram.word(addr)
     }
 
     #[inline(always)]
     fn load(&mut self, _hart: HartNo, width: Width, addr: u64) -> Loaded {
-        match find(addr, width) {
-            Some((Target::Ram, at)) => Loaded::Value(self.ram.number(at as usize, width)),
-            Some((Target::Finisher | Target::Debug, _)) => Loaded::Value(0),
-            None => Loaded::Nothing,
+        match self.ram.load(addr, width) {
+            Some(value) => Loaded::Value(value),
+            None => match find_port(addr, width) {
+                Some(_) => Loaded::Value(0),
+                None => Loaded::Nothing,
+            },
         }
     }
 
     #[inline(always)]
     fn store(&mut self, _hart: HartNo, width: Width, addr: u64, value: u64) -> Stored {
-        match find(addr, width) {
-            Some((Target::Ram, at)) => self.ram.set_number(at as usize, width, value),
-            Some((Target::Debug, _)) => self.shown = Shown::Byte((value & 0xff) as u8),
-            Some((Target::Finisher, _)) => match finish_of(width, value) {
+        if self.ram.store(addr, width, value) {
+            return Stored::Done;
+        }
+        match find_port(addr, width) {
+            Some(Port::Debug) => self.shown = Shown::Byte((value & 0xff) as u8),
+            Some(Port::Finisher) => match finish_of(width, value) {
                 Some(finish) => self.shown = Shown::Finish(finish),
                 None => {}
             },

@@ -3,11 +3,8 @@
 
 mod command;
 mod flat;
-mod hart;
 mod map;
 mod output;
-mod place;
-mod ram;
 mod report;
 mod run;
 mod words;

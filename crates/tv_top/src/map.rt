@@ -1,17 +1,14 @@
-//! The memory map of the flat machine.
+//! The ports of the flat machine and their addresses.
 
 ghost use Rattle.std.specs.Prelude.{◌≡◌};
 ghost use Rattle.tv_base.specs.Width.{width_bytes};
-ghost use Rattle.tv_top.specs.Map.{flat_ranges, range_at};
+ghost use Rattle.tv_top.specs.Map.{flat_ranges, port_at};
 
-use crate::hart::RAM_BASE;
 use tv_base::Width;
 
-/// Where a range of addresses leads.
+/// What an address outside memory leads to.
 #[derive(Clone, Copy)]
-pub enum Target {
-    /// Guest memory.
-    Ram,
+pub enum Port {
     /// The register that ends a run.
     Finisher,
     /// The port that takes debug bytes.
@@ -27,24 +24,16 @@ const FINISHER_BYTES: u64 = 4;
 
 const DEBUG_BASE: u64 = 0x1000_0000;
 
-/// The range that holds all bytes of an access, and the offset in it; `None` where no range does.
-#[inline(always)]
-pub fn find(addr: u64, width: Width) -> Option<(Target, u64)>
-    ensures { result ≡ range_at flat_ranges addr (width_bytes width) }
+/// The port that has all bytes of an access; `None` where no port does.
+pub fn find_port(addr: u64, width: Width) -> Option<Port>
+    ensures { result ≡ port_at flat_ranges addr (width_bytes width) }
 {
     let bytes = u64::from(width.bytes());
-    if addr >= RAM_BASE {
-        let at = addr - RAM_BASE;
-        if at <= FLAT_RAM_BYTES as u64 - bytes {
-            return Some((Target::Ram, at));
-        }
-        return None;
-    }
-    if addr >= FINISHER_BASE && addr + bytes <= FINISHER_BASE + FINISHER_BYTES {
-        return Some((Target::Finisher, addr - FINISHER_BASE));
+    if addr >= FINISHER_BASE && addr <= FINISHER_BASE + FINISHER_BYTES - bytes {
+        return Some(Port::Finisher);
     }
     if addr == DEBUG_BASE && bytes == 1 {
-        return Some((Target::Debug, 0));
+        return Some(Port::Debug);
     }
     None
 }

@@ -7,9 +7,9 @@ ghost use Rattle.tv_top.specs.Run.{event, run, after_round};
 ghost use Rattle.tv_top.specs.Texts.{end_status};
 
 use crate::flat::{Finish, Flat, Shown};
-use crate::hart::{Did, Hart};
 use crate::output::put_all;
 use arrayvec::ArrayVec;
+use tv_hart::{Did, Hart};
 use tv_out::Sink;
 
 /// Hart events of a round.
@@ -60,10 +60,12 @@ pub struct Machine {
     pub place: Flat,
 }
 
-/// One event.
+/// One event. The flat machine's place answers each access at once, so its hart never waits.
 #[inline(always)]
 fn next_event(machine: &mut Machine) -> Happened
-    ensures { (result, machine.new) ≡ event machine.old }
+    requires { machine.old.hart.waits ≡ None }
+    ensures event { (result, machine.new) ≡ event machine.old }
+    ensures waits { machine.new.hart.waits ≡ None }
 {
     match machine.hart.step(&mut machine.place) {
         Did::Retired => match machine.place.take_shown() {
@@ -72,6 +74,7 @@ fn next_event(machine: &mut Machine) -> Happened
             Shown::Finish(Finish::Off) => Happened::End(End::PowerOff),
             Shown::Finish(Finish::Failed(code)) => Happened::End(End::Failed(code)),
         },
+        Did::Held | Did::Full => unreachable!(),
         Did::Unbuilt => Happened::End(End::Unbuilt(machine.hart.pc())),
     }
 }
@@ -80,7 +83,9 @@ fn next_event(machine: &mut Machine) -> Happened
 fn run_round(machine: &mut Machine, limit: u32, bytes: &mut ArrayVec<u8, 64>) -> Option<End>
     requires limit { limit ≤ 64 }
     requires empty { bytes.old.items ≡ [] }
-    ensures { (rest : ℕ) → run (limit + rest) machine.old ≡ after_round bytes.new.items result (run rest machine.new) }
+    requires waits { machine.old.hart.waits ≡ None }
+    ensures waits { machine.new.hart.waits ≡ None }
+    ensures ran { (rest : ℕ) → run (limit + rest) machine.old ≡ after_round bytes.new.items result (run rest machine.new) }
 {
     for _done in 0..limit {
         match next_event(machine) {
@@ -95,6 +100,7 @@ fn run_round(machine: &mut Machine, limit: u32, bytes: &mut ArrayVec<u8, 64>) ->
 /// Up to `steps` events in rounds, and the debug bytes of each round put out after it. The answer is the run's end, or
 /// `None` where a put failed.
 pub fn run_machine<O: Sink>(machine: &mut Machine, steps: u32, out: &mut O) -> Option<End>
+    requires { machine.old.hart.waits ≡ None }
     ensures ended { IfSome result (λ end. (run steps machine.old).end ≡ end) }
     ensures told { OnSome result ((O.told out.new).bytes ≡ appended (O.told out.old).bytes (run steps machine.old).bytes) }
     ensures failed { IfNone result (Rose (O.told out.old).faults (O.told out.new).faults) }

@@ -10,7 +10,7 @@ unfolding flat_run
 returns-in-Some-clause-gives g c =
     let fits : Fits c.in-Ok.image.items = search rules in
     let first : first_machine c.in-Ok.image.items ≡ c.in-Ok-flat_machine.machine =
-    sym (c.in-Ok-flat_machine.ensures ∙ ap first_machine c.deref.ensures.value)
+    sym (c.in-Ok-flat_machine.ensures.first ∙ ap first_machine c.deref.ensures.value)
     in record {
       image = c.in-Ok.image.items;
       has = record { held = c.in-Ok.ensures.ok; fits = fits };
@@ -23,7 +23,7 @@ unfolding flat_run
 returns-clause-gives g c =
     let fits : Fits c.in-Ok.image.items = search rules in
     let first : first_machine c.in-Ok.image.items ≡ c.in-Ok-flat_machine.machine =
-    sym (c.in-Ok-flat_machine.ensures ∙ ap first_machine c.deref.ensures.value)
+    sym (c.in-Ok-flat_machine.ensures.first ∙ ap first_machine c.deref.ensures.value)
     in record {
       image = c.in-Ok.image.items;
       has = record { held = c.in-Ok.ensures.ok; fits = fits };

@@ -4,9 +4,9 @@ use Rattle.tv_isa.specs.declared.Instr.{Instr}
 use Rattle.tv_isa.specs.declared.Instr.TheVariants as instr
 use Rattle.tv_isa.specs.declared.Alu.TheVariants as alu
 use Rattle.tv_isa.specs.declared.Branch.TheVariants as branch
-use Rattle.tv_top.specs.declared.hart.operation.Extension.TheVariants as extension
-use Rattle.tv_top.specs.declared.hart.operation.Operation.{Operation}
-use Rattle.tv_top.specs.declared.hart.operation.Operation.TheVariants as op
+use Rattle.tv_hart.specs.declared.loads.Extension.TheVariants as extension
+use Rattle.tv_hart.specs.declared.operation.Operation.{Operation}
+use Rattle.tv_hart.specs.declared.operation.Operation.TheVariants as op
 
 -- the operation of an instruction; the rows of the extensions M, A and Zicsr and of SYSTEM are as yet not built
 abbrev pub operation_of : Instr → Operation

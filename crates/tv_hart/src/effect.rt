@@ -1,7 +1,7 @@
 //! What an operation does to its hart and asks of the place.
 
 ghost use Rattle.std.specs.Prelude.{◌≡◌, ◌<◌, ◌*◌, ◌^◌, slice_index};
-ghost use Rattle.tv_top.specs.Effect.{
+ghost use Rattle.tv_hart.specs.Effect.{
   effect_of,
   sum_64,
   FitsOperation,
@@ -13,7 +13,8 @@ ghost use Rattle.tv_top.specs.Effect.{
   jump_offset,
 };
 
-use super::operation::{Extension, Operation};
+use crate::loads::Extension;
+use crate::operation::Operation;
 use tv_base::Width;
 use tv_exec::{alu, alu_w, branch, sign_extended};
 

@@ -1,10 +1,10 @@
 -- What an operation does to its hart and asks of the place, over the values of its registers and its pc (RISC-V
 -- Unprivileged ISA, chapters "RV32I" and "RV64I").
 use Rattle.std.specs.Prelude.{◌==◌, ℕ, ◌+◌, ◌-◌, ◌*◌, ◌%◌, ◌^◌, ◌<◌, if◌then◌else◌, List, slice_index, slice_set}
-use Rattle.tv_top.specs.declared.hart.operation.Operation.{Operation}
-use Rattle.tv_top.specs.declared.hart.operation.Operation.TheVariants as op
-use Rattle.tv_top.specs.declared.hart.effect.Effect.{Effect}
-use Rattle.tv_top.specs.declared.hart.effect.Effect.TheVariants as effect
+use Rattle.tv_hart.specs.declared.operation.Operation.{Operation}
+use Rattle.tv_hart.specs.declared.operation.Operation.TheVariants as op
+use Rattle.tv_hart.specs.declared.effect.Effect.{Effect}
+use Rattle.tv_hart.specs.declared.effect.Effect.TheVariants as effect
 use Rattle.tv_exec.specs.Arithmetic.{alu_of, alu_w_of, HasWordForm, branch_of, sign_extended_from}
 
 -- the value of a register; x0 reads 0

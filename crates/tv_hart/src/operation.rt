@@ -2,21 +2,13 @@
 
 ghost use Rattle.std.specs.Prelude.{◌≡◌};
 ghost use Rattle.tv_isa.specs.Table.{InRange};
-ghost use Rattle.tv_top.specs.Operation.{operation_of};
-ghost use Rattle.tv_top.specs.Effect.{FitsOperation};
+ghost use Rattle.tv_hart.specs.Operation.{operation_of};
+ghost use Rattle.tv_hart.specs.Effect.{FitsOperation};
 
+use crate::loads::Extension;
 use tv_base::Width;
 use tv_exec::{Alu, Branch};
 use tv_isa::Instr;
-
-/// How a loaded number becomes one of 64 bits.
-#[derive(Clone, Copy)]
-pub enum Extension {
-    /// With its sign.
-    Sign,
-    /// With zeros.
-    Zero,
-}
 
 /// An operation, over what its instruction has. Registers `rd`, `rs1` and `rs2` are numbers below 32; immediates, offsets
 /// and shift amounts are the raw numbers of the instruction's format.

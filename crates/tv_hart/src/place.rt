@@ -1,0 +1,53 @@
+//! What a hart reaches: the memory and the registers behind its addresses.
+
+ghost use Rattle.std.specs.Prelude.{◌≡◌};
+
+use tv_base::{HartNo, Width};
+
+/// What a load found.
+#[derive(Clone, Copy)]
+pub enum Loaded {
+    /// The bytes as a little-endian number, of which the low bytes of the load's width count.
+    Value(u64),
+    /// The load was issued, and its value comes later.
+    Held,
+    /// There is no room for the load now. Nothing changed.
+    Full,
+    /// Nothing lies there. Nothing changed.
+    Nothing,
+}
+
+/// What a store did.
+#[derive(Clone, Copy)]
+pub enum Stored {
+    /// It was made.
+    Done,
+    /// There is no room for the store now. Nothing changed.
+    Full,
+    /// Nothing lies there. Nothing changed.
+    Nothing,
+}
+
+/// The addresses that a hart reaches. A load or store is aligned to its width.
+pub trait Place {
+    ghost use Rattle.tv_hart.specs.Place.{Meaning, OnNoLoad, OnNoStore};
+
+    // What each call gives and leaves, as functions of the place.
+    ghost meaning: { Meaning Self };
+
+    /// The word of 4 bytes at an address of memory; `None` where a byte of it lies elsewhere. What
+    /// contracts see of the place stays as it was.
+    fn fetch(&mut self, addr: u64) -> Option<u32>
+        ensures word { result ≡ meaning.fetch self.old addr }
+        ensures unchanged { self.new ≡ self.old };
+
+    /// Loads for a hart.
+    fn load(&mut self, hart: HartNo, width: Width, addr: u64) -> Loaded
+        ensures meaning { (result, self.new) ≡ meaning.load self.old hart width addr }
+        ensures unchanged { OnNoLoad result (self.new ≡ self.old) };
+
+    /// Stores the low `width` bytes of a value for a hart.
+    fn store(&mut self, hart: HartNo, width: Width, addr: u64, value: u64) -> Stored
+        ensures meaning { (result, self.new) ≡ meaning.store self.old hart width addr value }
+        ensures unchanged { OnNoStore result (self.new ≡ self.old) };
+}
