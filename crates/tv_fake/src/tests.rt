@@ -58,80 +58,112 @@ fn random_bytes_end(rt: HostRuntime) -> Result<(), Fail> {
     Ok(())
 }
 
+/// A sector of one byte again and again.
+fn sector(byte: u8) -> [u8; 512] {
+    [byte; 512]
+}
+
+/// The first byte of a sector, or none where the disk failed or lacks the sector.
+fn first_byte(disk: &mut MemoryDisk, at: u32) -> Option<u8> {
+    let mut out = sector(1);
+    if at >= disk.sectors() || disk.read(at, &mut out).is_err() {
+        return None;
+    }
+    Some(out[0])
+}
+
+/// Writes a sector of this byte; not done where the disk failed or lacks the sector.
+fn is_written(disk: &mut MemoryDisk, at: u32, byte: u8) -> bool {
+    at < disk.sectors() && disk.write(at, &sector(byte)).is_ok()
+}
+
+/// A disk of one sector of this byte, with room for two, of which the second call fails.
+fn small_disk(rt: &impl AllocGlobal, byte: u8) -> Result<MemoryDisk, Fail> {
+    Ok(MemoryDisk::new(rt.alloc(), &sector(byte), 2, list(rt, &[1])?)?)
+}
+
 #[test]
 fn a_disk_changes_by_what_was_done(rt: HostRuntime) -> Result<(), Fail> {
-    let mut disk = MemoryDisk::new(rt.alloc(), &[7; 1000], 2, list(&rt, &[1])?)?;
-    let mut out = [0; 512];
-    assert_eq!(rt; disk.sectors(), 1);
-    assert_eq!(rt; disk.write(0, &[8; 512]), Ok(()));
-    assert_eq!(rt; disk.sectors(), 1);
-    assert_eq!(rt; disk.write(0, &[9; 512]), Err(Failed));
+    let mut disk = small_disk(&rt, 7)?;
+    assert!(rt; is_written(&mut disk, 0, 8));
+    assert!(rt; !is_written(&mut disk, 0, 9));
+    assert_eq!(rt; first_byte(&mut disk, 0), Some(8));
     assert_eq!(rt; disk.set_len(3), Err(Failed));
     assert_eq!(rt; disk.set_len(2), Ok(()));
-    assert_eq!(rt; disk.sectors(), 2);
-    assert_eq!(rt; disk.read(1, &mut out), Ok(()));
-    assert_eq!(rt; out.as_slice(), [0; 512].as_slice());
-    assert_eq!(rt; disk.sectors(), 2);
-    assert_eq!(rt; disk.read(0, &mut out), Ok(()));
-    assert_eq!(rt; out.as_slice(), [8; 512].as_slice());
+    assert_eq!(rt; first_byte(&mut disk, 1), Some(0));
     assert_eq!(rt; disk.flush(), Ok(()));
     assert_eq!(rt; disk.bytes().len(), 1024);
     assert_eq!(rt; disk.faults(), 2);
     Ok(())
 }
 
-#[test]
-fn a_store_gives_its_objects_in_order(rt: HostRuntime) -> Result<(), Fail> {
+/// A store with the names `a` and `b`, which has a file, a disk, a source and two sinks at `a`, and of which the first
+/// call fails.
+fn small_store(rt: &impl AllocGlobal) -> Result<MemoryStore, Fail> {
     let mut names = Vec::new(rt.alloc());
-    for name in ["a", "b"] {
-        names.push(String::from_str(rt.alloc(), name)?)?;
-    }
-    let name = || String::from_str(rt.alloc(), "a");
+    names.push(String::from_str(rt.alloc(), "a")?)?;
+    names.push(String::from_str(rt.alloc(), "b")?)?;
     let mut objects = Objects::new(rt.alloc());
-    objects
-        .files
-        .push(Named::new(name()?, list(&rt, b"file")?))?;
+    objects.files.push(at_a(rt, list(rt, b"file")?)?)?;
+    objects.disks.push(at_a(rt, small_disk(rt, 7)?)?)?;
+    let source = MemorySource::new(list(rt, b"in")?, Vec::new(rt.alloc()));
+    objects.sources.push(at_a(rt, source)?)?;
     for room in [1, 2] {
         let sink = MemorySink::new(rt.alloc(), room, Vec::new(rt.alloc()))?;
-        objects.sinks.push(Named::new(name()?, sink))?;
+        objects.sinks.push(at_a(rt, sink)?)?;
     }
-    let disk = MemoryDisk::new(rt.alloc(), &[7; 512], 1, Vec::new(rt.alloc()))?;
-    objects.disks.push(Named::new(name()?, disk))?;
-    let source = MemorySource::new(list(&rt, b"in")?, Vec::new(rt.alloc()));
-    objects.sources.push(Named::new(name()?, source))?;
-    let mut store = MemoryStore::new(rt.alloc(), names, objects, list(&rt, &[0])?)?;
+    Ok(MemoryStore::new(rt.alloc(), names, objects, list(rt, &[0])?)?)
+}
 
-    assert_eq!(rt;
-        store.load(rt.alloc(), "a", 4).map(|bytes| bytes.len()),
-        Err(LoadFault::Failed)
-    );
-    assert_eq!(rt;
-        store.load(rt.alloc(), "a", 4).map(|bytes| bytes.len()),
-        Ok(4)
-    );
-    assert_eq!(rt;
-        store.load(rt.alloc(), "a", 3).map(|bytes| bytes.len()),
-        Err(LoadFault::TooLong)
-    );
-    assert_eq!(rt;
-        store.load(rt.alloc(), "b", 4).map(|bytes| bytes.len()),
-        Err(LoadFault::Failed)
-    );
-    assert_eq!(rt;
-        store.load(rt.alloc(), "c", 4).map(|bytes| bytes.len()),
-        Err(LoadFault::Failed)
-    );
-    for taken in [1, 2] {
-        let mut sink = store.create("a").map_err(|_| "no sink")?;
-        assert_eq!(rt; sink.put(b"out"), Err(Short { taken }));
+/// An object named `a`.
+fn at_a<T: Drop>(rt: &impl AllocGlobal, object: T) -> Result<Named<T>, Fail> {
+    Ok(Named::new(String::from_str(rt.alloc(), "a")?, object))
+}
+
+/// How many bytes a file has, of which there are to be at most `most`.
+fn loaded(
+    rt: &impl AllocGlobal,
+    store: &mut MemoryStore,
+    name: &str,
+    most: usize,
+) -> Result<usize, LoadFault> {
+    match store.load(rt.alloc(), name, most) {
+        Ok(bytes) => Ok(bytes.len()),
+        Err(fault) => Err(fault),
     }
-    assert!(rt; store.create("a").is_err());
-    assert!(rt; store.open_disk("b", true).is_err());
-    assert!(rt; store.open_disk("a", true).is_ok());
-    assert!(rt; store.open_source("a").is_ok());
-    assert_eq!(rt; store.faults_at("a"), 2);
-    assert_eq!(rt; store.faults_at("b"), 2);
-    assert_eq!(rt; store.faults_at("d"), 1);
-    assert_eq!(rt; store.faults(), 5);
+}
+
+/// How much of three bytes goes to the next sink at `a`, if there is one.
+fn taken_by_next(store: &mut MemoryStore) -> Option<u16> {
+    let mut sink = store.create("a").ok()?;
+    match sink.put(b"out") {
+        Ok(()) => Some(3),
+        Err(short) => Some(short.taken),
+    }
+}
+
+#[test]
+fn a_store_gives_its_objects_in_order(rt: HostRuntime) -> Result<(), Fail> {
+    let mut store = small_store(&rt)?;
+    for (name, most, answer) in [
+        ("a", 4, Err(LoadFault::Failed)),
+        ("a", 4, Ok(4)),
+        ("a", 3, Err(LoadFault::TooLong)),
+        ("b", 4, Err(LoadFault::Failed)),
+        ("c", 4, Err(LoadFault::Failed)),
+    ] {
+        assert_eq!(rt; loaded(&rt, &mut store, name, most), answer, "{name}");
+    }
+    for taken in [Some(1), Some(2), None] {
+        assert_eq!(rt; taken_by_next(&mut store), taken);
+    }
+    for (name, is_there) in [("b", false), ("a", true), ("a", false)] {
+        assert_eq!(rt; store.open_disk(name, true).is_ok(), is_there);
+        assert_eq!(rt; store.open_source(name).is_ok(), is_there);
+    }
+    for (name, faults) in [("a", 4), ("b", 3), ("d", 1)] {
+        assert_eq!(rt; store.faults_at(name), faults, "{name}");
+    }
+    assert_eq!(rt; store.faults(), 8);
     Ok(())
 }

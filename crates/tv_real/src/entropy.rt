@@ -23,7 +23,7 @@ impl<'a, R> SystemEntropy<'a, R> {
 }
 
 impl<'a, R: RandomSource> Entropy for SystemEntropy<'a, R> {
-    ghost told = { λ entropy. record { bytes = None; faults = entropy.faults } };
+    ghost told = { λ entropy. record { bytes = None; left = None; faults = entropy.faults; calls = None } };
 
     fn faults(&self) -> u64 {
         self.faults

@@ -1,12 +1,10 @@
-//! A stream or a file that takes bytes.
+//! A writer as a sink.
 
 ghost use Rattle.std.specs.Prelude.{None, ◌≡◌, ◌≤◌, length};
 
+use crate::RETRIES;
 use std::io::{ErrorKind, Write};
 use tv_out::{Short, Sink};
-
-/// How often a put goes on after an interruption.
-const RETRIES: usize = 64;
 
 /// A writer as a sink. It tells its count of faults alone.
 #[derive(Drop)]
@@ -25,7 +23,7 @@ impl<W> WriterSink<W> {
 }
 
 impl<W: Write> Sink for WriterSink<W> {
-    ghost told = { λ sink. record { bytes = None; faults = sink.faults } };
+    ghost told = { λ sink. record { bytes = None; faults = sink.faults; script = None } };
 
     fn faults(&self) -> u64 {
         self.faults
@@ -45,7 +43,7 @@ impl<W: Write> Sink for WriterSink<W> {
 
 /// Writes until all bytes are taken or the writer fails, and answers how many were taken. A writer that takes none
 /// has failed.
-fn write_front<W: Write>(writer: &mut W, bytes: &[u8]) -> usize
+pub fn write_front<W: Write>(writer: &mut W, bytes: &[u8]) -> usize
     ensures { result ≤ length bytes.now }
 {
     let mut taken = 0;
