@@ -1,8 +1,8 @@
 -- Calls of a store on a name.
-use Rattle.std.specs.Prelude.{ℕ, ◌≤◌, ◌≡◌, ◌⊎◌, List, Option, Some, None, Result, Ok, Err, OnErr, Contains}
+use Rattle.std.specs.Prelude.{ℕ, ◌≡◌, ◌⊎◌, List, Option, Some, None, Result, Ok, Err, OnErr, Contains}
 use Rattle.tv_out.specs.declared.LoadFault.{LoadFault}
 use Rattle.tv_out.specs.declared.LoadFault.TheVariants as fault
-use Rattle.tv_out.specs.Faults.{NameFaults, Rose, HasCause, NameRose, StaysElsewhere}
+use Rattle.tv_out.specs.Faults.{NameFaults, HasCause, NameRose, StaysElsewhere}
 use Rattle.tv_out.specs.Calls.{IsFailing, Foretold, next_count, with_call}
 use Rattle.tv_out.specs.Shelf.{Named, first_named, after_giving}
 use Rattle.tv_out.specs.Told.{ToldStore, StoreScript, Files}
@@ -26,28 +26,32 @@ after_disk result name script = record {
   calls = with_call script.calls;
   disks = after_giving result name script.disks;
   sinks = script.sinks;
-  sources = script.sources }
+  sources = script.sources;
+}
 
 abbrev pub after_sink : {T E : Type 0} → Result T E → List ℕ → StoreScript → StoreScript
 after_sink result name script = record {
   calls = with_call script.calls;
   disks = script.disks;
   sinks = after_giving result name script.sinks;
-  sources = script.sources }
+  sources = script.sources;
+}
 
 abbrev pub after_source : {T E : Type 0} → Result T E → List ℕ → StoreScript → StoreScript
 after_source result name script = record {
   calls = with_call script.calls;
   disks = script.disks;
   sinks = script.sinks;
-  sources = after_giving result name script.sources }
+  sources = after_giving result name script.sources;
+}
 
 abbrev pub after_load : StoreScript → StoreScript
 after_load script = record {
   calls = with_call script.calls;
   disks = script.disks;
   sinks = script.sinks;
-  sources = script.sources }
+  sources = script.sources;
+}
 
 -- the name isn't in the list of names, where there is one
 abbrev pub IsUnlisted : Option NameFaults → List ℕ → Type 0

@@ -43,7 +43,8 @@ abbrev pub after_write : {T E : Type 0} → Result T E → ℕ → List ℕ → 
 after_write (Ok _) sector bytes content = record {
   bytes = with_sector content.bytes sector bytes;
   changes = content.changes + 1;
-  flushed = content.flushed }
+  flushed = content.flushed;
+}
 after_write (Err _) sector bytes content = content
 
 -- the content after a flush, by its answer
@@ -56,7 +57,8 @@ abbrev pub after_set_len : {T E : Type 0} → Result T E → ℕ → DiskContent
 after_set_len (Ok _) sectors content = record {
   bytes = resized content.bytes sectors;
   changes = content.changes + 1;
-  flushed = content.flushed }
+  flushed = content.flushed;
+}
 after_set_len (Err _) sectors content = content
 
 -- the number of sectors after a change of length, by its answer

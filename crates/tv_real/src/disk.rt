@@ -87,7 +87,7 @@ impl<F: Read + Write + Seek + OpenFile> Disk for FileDisk<F> {
     }
 
     fn set_len(&mut self, sectors: u32) -> Result<(), Failed> {
-        match self.file.set_len(SECTOR_BYTES * u64::from(sectors)) {
+        match resize(&self.file, self.sectors, sectors) {
             Ok(()) => {
                 self.sectors = sectors;
                 Ok(())
@@ -104,6 +104,14 @@ fn whole_sectors(bytes: u64) -> u32
     (bytes / SECTOR_BYTES).min(u64::from(DISK_SECTORS)) as u32
 }
 
+/// Makes a file of some whole sectors one of so many, and drops a rest first, so that new sectors are zeros.
+fn resize<F: OpenFile>(file: &F, before: u32, sectors: u32) -> io::Result<()> {
+    if before < sectors {
+        file.set_len(SECTOR_BYTES * u64::from(before))?;
+    }
+    file.set_len(SECTOR_BYTES * u64::from(sectors))
+}
+
 /// Goes to a sector.
 fn seek_sector<F: Seek>(file: &mut F, sector: u32) -> Result<(), Failed> {
     match file.seek(SeekFrom::Start(SECTOR_BYTES * u64::from(sector))) {
@@ -113,7 +121,11 @@ fn seek_sector<F: Seek>(file: &mut F, sector: u32) -> Result<(), Failed> {
 }
 
 /// Reads a sector.
-fn read_sector<F: Read + Seek>(file: &mut F, sector: u32, out: &mut [u8; 512]) -> Result<(), Failed> {
+fn read_sector<F: Read + Seek>(
+    file: &mut F,
+    sector: u32,
+    out: &mut [u8; 512],
+) -> Result<(), Failed> {
     match seek_sector(file, sector) {
         Ok(()) => read_whole(file, out),
         Err(failed) => Err(failed),
@@ -121,7 +133,11 @@ fn read_sector<F: Read + Seek>(file: &mut F, sector: u32, out: &mut [u8; 512]) -
 }
 
 /// Writes a sector.
-fn write_sector<F: Write + Seek>(file: &mut F, sector: u32, bytes: &[u8; 512]) -> Result<(), Failed> {
+fn write_sector<F: Write + Seek>(
+    file: &mut F,
+    sector: u32,
+    bytes: &[u8; 512],
+) -> Result<(), Failed> {
     match seek_sector(file, sector) {
         Ok(()) => {
             if write_front(file, bytes) == bytes.len() {

@@ -19,3 +19,5 @@ pub use store::FileStore;
 /// How often an operation goes on after an interruption.
 const RETRIES: usize = 64;
 
+#[cfg(test)]
+mod tests;
