@@ -1,17 +1,11 @@
 //! `tv`: the words of the command line, served over the files, the streams and the random bytes of the system.
 #![tactic(auto)]
 
-mod random;
-mod sink;
-mod store;
-
-use random::SystemEntropy;
-use sink::WriterSink;
 use std::alloc::{AllocError, Global};
 use std::process::ExitCode;
 use std::rt::Env;
 use std::{env, io};
-use store::FileStore;
+use tv_real::{FileStore, SystemEntropy, WriterSink};
 use tv_top::{PlainOutside, plain};
 
 fn main(rt: HostRuntime) -> ExitCode {

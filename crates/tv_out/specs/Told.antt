@@ -1,28 +1,49 @@
 -- What an object outside the program tells of itself: its count of faults always, and what it holds where it can.
-use Rattle.std.specs.Prelude.{ℕ, ◌<◌, ◌≡◌, ◌++◌, List, Option, Some, None, Result, Ok, Err, take, length}
+use Rattle.std.specs.Prelude.{ℕ, ◌+◌, ◌-◌, ◌<◌, ◌≤◌, ◌≡◌, ◌⊎◌, ◌++◌, List, [], Option, Some, None, Result, Ok, Err, take, length, min}
 use Rattle.std.specs.Option.{option_map}
 use Rattle.tv_out.specs.declared.Short.{Short}
 use Rattle.tv_out.specs.Faults.{NameFaults}
+use Rattle.tv_out.specs.Calls.{Calls, RoomScript, IsFailing, IsUncalled, Foretold, next_count, calls_of}
+use Rattle.tv_out.specs.Disk.{ToldDisk}
+use Rattle.tv_out.specs.Shelf.{Named}
 
 -- the bytes of each name, where they are told; a name without a file has None
 abbrev pub Files : Type 0
 Files = Option (List ℕ → Option (List ℕ))
+
+-- what a sink tells: the bytes that were put so far, its faults, and how its puts will fail
+pub record ToldSink : Type 0 where
+  pub bytes : Option (List ℕ)
+  pub faults : ℕ
+  pub script : Option RoomScript
+
+-- what a source tells: the bytes that are left in it, its faults, and how its calls will fail
+pub record ToldSource : Type 0 where
+  pub left : Option (List ℕ)
+  pub faults : ℕ
+  pub calls : Option Calls
+
+-- what an entropy object tells: the bytes that were taken so far, those that are left in it, its faults, and how its
+-- calls will fail
+pub record ToldEntropy : Type 0 where
+  pub bytes : Option (List ℕ)
+  pub left : Option (List ℕ)
+  pub faults : ℕ
+  pub calls : Option Calls
+
+-- how the calls of a store will fail, and the objects that it is still to give, in order, each as it is opened
+pub record StoreScript : Type 0 where
+  pub calls : Calls
+  pub disks : List (Named ToldDisk)
+  pub sinks : List (Named ToldSink)
+  pub sources : List (Named ToldSource)
 
 -- what a store tells
 pub record ToldStore : Type 0 where
   pub files : Files
   pub faults : ℕ
   pub name_faults : Option NameFaults
-
--- what a sink tells: the bytes that were put so far, and its faults
-pub record ToldSink : Type 0 where
-  pub bytes : Option (List ℕ)
-  pub faults : ℕ
-
--- what an entropy object tells: the bytes that were taken so far, and its faults
-pub record ToldEntropy : Type 0 where
-  pub bytes : Option (List ℕ)
-  pub faults : ℕ
+  pub script : Option StoreScript
 
 -- the told bytes with these bytes after them
 abbrev pub appended : Option (List ℕ) → List ℕ → Option (List ℕ)
@@ -50,3 +71,64 @@ pub record IsCut (bytes : List ℕ) (old new : Option (List ℕ)) : Type 0 where
   pub rest : List ℕ
   pub parts : bytes ≡ front ++ rest
   pub told : new ≡ appended old front
+
+-- told bytes that stand before others are gone
+abbrev pub prepended : List ℕ → Option (List ℕ) → Option (List ℕ)
+prepended bytes told = option_map (λ rest. bytes ++ rest) told
+
+-- how many bytes are told
+abbrev pub told_length : Option (List ℕ) → ℕ
+told_length None = 0
+told_length (Some held) = length held
+
+-- nothing is left, where that is told
+abbrev pub IsSpent : Option (List ℕ) → Type 0
+IsSpent None = Unit {0}
+IsSpent (Some held) = held ≡ []
+
+-- fewer bytes are left than so many, and that is told
+abbrev pub IsShortOf : Option (List ℕ) → ℕ → Type 0
+IsShortOf None asked = ⊥
+IsShortOf (Some held) asked = length held < asked
+
+-- a put by a script: after so many bytes a piece of so many went out whole, since it was no call that fails and there
+-- was room
+pub record IsPutWhole (script : RoomScript) (held asked : ℕ) : Type 0 where
+  pub works : ¬ (IsFailing script.calls)
+  pub fits : held + asked ≤ script.room
+
+-- or it fell short: the call is one that fails and took nothing, or the piece passes the room and what fits went out
+abbrev pub IsPutShort : RoomScript → ℕ → ℕ → ℕ → Type 0
+IsPutShort script held asked taken =
+    (IsFailing script.calls × (taken ≡ 0)) ⊎ ((script.room < held + asked) × (taken ≡ script.room - held) × ¬ (IsFailing script.calls))
+
+-- where a script is told, a put is one or the other, and the sink counts a fault where it fell short
+abbrev pub FollowsPut : {T : Type 0} → Option RoomScript → ℕ → ℕ → ℕ → ℕ → Result T Short → Type 0
+FollowsPut None held asked before now result = Unit {0}
+FollowsPut (Some script) held asked before now (Ok _) = IsPutWhole script held asked × (now ≡ before)
+FollowsPut (Some script) held asked before now (Err short) =
+    IsPutShort script held asked short.taken × (now ≡ next_count before)
+
+-- where calls are told, a take failed exactly by its number, and gave as much as is left and fits
+abbrev pub FollowsTake : Option Calls → Option (List ℕ) → ℕ → ℕ → ℕ → {E : Type 0} → Result ℕ E → Type 0
+FollowsTake None left asked before now result = Unit {0}
+FollowsTake (Some calls) left asked before now (Ok count) =
+    (¬ (IsFailing calls)) × (now ≡ before) × (count ≡ min asked (told_length left))
+FollowsTake (Some calls) left asked before now (Err _) = IsFailing calls × (now ≡ next_count before)
+
+-- where calls are told, a fill failed exactly by its number, or since too few bytes were left
+abbrev pub FollowsFill : {T E : Type 0} → Option Calls → Option (List ℕ) → ℕ → ℕ → ℕ → Result T E → Type 0
+FollowsFill None left asked before now result = Unit {0}
+FollowsFill (Some calls) left asked before now result =
+    Foretold (IsFailing calls ⊎ IsShortOf left asked) before now result
+
+-- a sink as it is created
+pub record IsCreatedSink (sink : ToldSink) : Type 0 where
+  pub faults : sink.faults ≡ 0
+  pub bytes : IsSpent sink.bytes
+  pub calls : IsUncalled (calls_of sink.script)
+
+-- a source as it is opened
+pub record IsOpenedSource (source : ToldSource) : Type 0 where
+  pub faults : source.faults ≡ 0
+  pub calls : IsUncalled source.calls

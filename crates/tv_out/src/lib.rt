@@ -1,12 +1,17 @@
-//! The traits of what lies outside the program: files, output and random bytes.
+//! The traits of what lies outside the program: files, disks, output, input and random bytes.
 //!
 //! Each object has a count of faults that never falls, and a call answers a failure only where that count rose. What an
-//! object holds is told where it can be, as by the objects in memory of tests, and `None` elsewhere.
+//! object holds is told where it can be, as by objects in memory, and `None` elsewhere. An object may also tell
+//! beforehand which of its calls will fail: then it fails at those and at no other.
 #![tactic(auto)]
 
-ghost use Rattle.std.specs.Prelude.{◌≡◌, ◌<◌, ◌≤◌, IfOk, IfErr, OnOk, OnErr, length};
+ghost use Rattle.std.specs.Prelude.{◌≡◌, ◌<◌, ◌≤◌, ◌*◌, ◌^◌, IfOk, IfErr, OnOk, OnErr, length, take};
+ghost use Rattle.std.specs.Option.{option_map};
 ghost use Rattle.tv_out.specs.Faults.{Rose, HasCause, NameRose, StaysElsewhere};
-ghost use Rattle.tv_out.specs.Told.{appended, gone, Holds, IsLonger};
+ghost use Rattle.tv_out.specs.Calls.{with_call, after_call, calls_of, FollowsCalls};
+ghost use Rattle.tv_out.specs.Told.{appended, prepended, gone, told_length, Holds, IsLonger, IsSpent, FollowsPut, FollowsTake, FollowsFill, IsCreatedSink, IsOpenedSource};
+ghost use Rattle.tv_out.specs.Disk.{IsWhole, HoldsSector, after_write, after_flush, after_set_len, sectors_after, FollowsSetLen, IsOpenedDisk};
+ghost use Rattle.tv_out.specs.Asked.{IsAskedFor, IsGiven, after_load, after_disk, after_sink, after_source, FollowsLoad, FollowsOpening};
 
 use std::alloc::Global;
 pub use tv_base::Failed;
@@ -33,6 +38,15 @@ pub enum LoadFault {
 pub trait Store {
     ghost use Rattle.tv_out.specs.Told.{ToldStore};
 
+    /// A disk of this store.
+    type Disk: Disk + Drop;
+
+    /// A file of this store that bytes are put to.
+    type Sink: Sink + Drop;
+
+    /// A file of this store that bytes are taken from.
+    type Source: Source + Drop;
+
     // What the store tells of itself.
     ghost told: { Self → ToldStore };
 
@@ -40,7 +54,7 @@ pub trait Store {
     fn faults(&self) -> u64
         ensures { result ≡ (told self.now).faults };
 
-    /// The bytes of the file `name`, of which there are to be at most `most`.
+    /// The bytes of the file `name`, of which there are to be at most `most`. It uses nothing up.
     ///
     /// # Errors
     /// `TooLong` exactly where the file is longer, `Failed` where the store failed at this name, `Memory`.
@@ -50,11 +64,112 @@ pub trait Store {
         ensures too_long { result ≡ Err LoadFault.TooLong → IsLonger (told self.old).files name.now most }
         ensures failed { result ≡ Err LoadFault.Failed → Rose (told self.old).faults (told self.new).faults }
         ensures at_name { result ≡ Err LoadFault.Failed → NameRose (told self.old).name_faults (told self.new).name_faults name.now }
+        ensures follows { FollowsLoad (told self.old).script name.now (told self.old) (told self.new) result }
 
         // Of everything else that the store tells nothing changes, but for counts that rise.
         ensures later { (told self.old).faults ≤ (told self.new).faults }
         ensures elsewhere { StaysElsewhere (told self.old).name_faults (told self.new).name_faults name.now }
-        ensures files { (told self.new).files ≡ (told self.old).files };
+        ensures files { (told self.new).files ≡ (told self.old).files }
+        ensures script { (told self.new).script ≡ option_map after_load (told self.old).script };
+
+    /// Opens the file `name` as a disk, for reading alone where `readonly` says so.
+    ///
+    /// # Errors
+    /// `Failed` where the store failed at this name.
+    fn open_disk(&mut self, name: &str, readonly: bool) -> Result<Self::Disk, Failed>
+        ensures opened { IfOk result (λ disk. IsOpenedDisk (Self.Disk.told disk)) }
+        ensures given { IfOk result (λ disk. IsGiven (told self.old).script (λ script. script.disks) name.now (Self.Disk.told disk)) }
+        ensures asked { IsAskedFor name.now (told self.old) (told self.new) result }
+        ensures follows { FollowsOpening (told self.old).script (λ script. script.disks) name.now (told self.old) (told self.new) result }
+        ensures script { (told self.new).script ≡ option_map (after_disk result name.now) (told self.old).script };
+
+    /// Creates the file `name`, or empties the one that is there, for bytes to be put to.
+    ///
+    /// # Errors
+    /// `Failed` where the store failed at this name.
+    fn create(&mut self, name: &str) -> Result<Self::Sink, Failed>
+        ensures created { IfOk result (λ sink. IsCreatedSink (Self.Sink.told sink)) }
+        ensures given { IfOk result (λ sink. IsGiven (told self.old).script (λ script. script.sinks) name.now (Self.Sink.told sink)) }
+        ensures asked { IsAskedFor name.now (told self.old) (told self.new) result }
+        ensures follows { FollowsOpening (told self.old).script (λ script. script.sinks) name.now (told self.old) (told self.new) result }
+        ensures script { (told self.new).script ≡ option_map (after_sink result name.now) (told self.old).script };
+
+    /// Opens the file `name`, for bytes to be taken from.
+    ///
+    /// # Errors
+    /// `Failed` where the store failed at this name.
+    fn open_source(&mut self, name: &str) -> Result<Self::Source, Failed>
+        ensures opened { IfOk result (λ source. IsOpenedSource (Self.Source.told source)) }
+        ensures given { IfOk result (λ source. IsGiven (told self.old).script (λ script. script.sources) name.now (Self.Source.told source)) }
+        ensures asked { IsAskedFor name.now (told self.old) (told self.new) result }
+        ensures follows { FollowsOpening (told self.old).script (λ script. script.sources) name.now (told self.old) (told self.new) result }
+        ensures script { (told self.new).script ≡ option_map (after_source result name.now) (told self.old).script };
+}
+
+/// Whole sectors of 512 bytes each, at most 2^31 of them.
+pub trait Disk {
+    ghost use Rattle.tv_out.specs.Disk.{ToldDisk};
+
+    // What the disk tells of itself.
+    ghost told: { Self → ToldDisk };
+
+    /// The count of faults. It never falls, and stands still at its last value.
+    fn faults(&self) -> u64
+        ensures { result ≡ (told self.now).faults };
+
+    /// The number of sectors.
+    fn sectors(&self) -> u32
+        ensures value { result ≡ (told self.now).sectors }
+        ensures most { result ≤ 2 ^ 31 }
+        ensures whole { IsWhole (told self.now) (told self.now).content };
+
+    /// Reads a sector.
+    ///
+    /// # Errors
+    /// `Failed` where the disk failed; what `out` holds is not said then.
+    fn read(&mut self, sector: u32, out: &mut [u8; 512]) -> Result<(), Failed>
+        requires { sector < (told self.old).sectors }
+        ensures ok { OnOk result (HoldsSector (told self.old).content sector out.new) }
+        ensures sectors { (told self.new).sectors ≡ (told self.old).sectors }
+        ensures content { (told self.new).content ≡ (told self.old).content }
+        ensures cause { HasCause (told self.old).faults (told self.new).faults result }
+        ensures follows { FollowsCalls (calls_of (told self.old).script) (told self.old).faults (told self.new).faults result }
+        ensures script { (told self.new).script ≡ option_map after_call (told self.old).script };
+
+    /// Writes a sector.
+    ///
+    /// # Errors
+    /// `Failed` where the disk failed; nothing was changed then.
+    fn write(&mut self, sector: u32, bytes: &[u8; 512]) -> Result<(), Failed>
+        requires { sector < (told self.old).sectors }
+        ensures sectors { (told self.new).sectors ≡ (told self.old).sectors }
+        ensures content { (told self.new).content ≡ option_map (after_write result sector bytes.now) (told self.old).content }
+        ensures cause { HasCause (told self.old).faults (told self.new).faults result }
+        ensures follows { FollowsCalls (calls_of (told self.old).script) (told self.old).faults (told self.new).faults result }
+        ensures script { (told self.new).script ≡ option_map after_call (told self.old).script };
+
+    /// Makes the changes so far lasting.
+    ///
+    /// # Errors
+    /// `Failed` where the disk failed.
+    fn flush(&mut self) -> Result<(), Failed>
+        ensures sectors { (told self.new).sectors ≡ (told self.old).sectors }
+        ensures content { (told self.new).content ≡ option_map (after_flush result) (told self.old).content }
+        ensures cause { HasCause (told self.old).faults (told self.new).faults result }
+        ensures follows { FollowsCalls (calls_of (told self.old).script) (told self.old).faults (told self.new).faults result }
+        ensures script { (told self.new).script ≡ option_map after_call (told self.old).script };
+
+    /// Changes the number of sectors, to 2^31 at most. New sectors are zeros.
+    ///
+    /// # Errors
+    /// `Failed` where the disk failed; nothing was changed then.
+    fn set_len(&mut self, sectors: u32) -> Result<(), Failed>
+        requires { sectors ≤ 2 ^ 31 }
+        ensures sectors { (told self.new).sectors ≡ sectors_after result sectors (told self.old).sectors }
+        ensures content { (told self.new).content ≡ option_map (after_set_len result sectors) (told self.old).content }
+        ensures cause { HasCause (told self.old).faults (told self.new).faults result }
+        ensures follows { FollowsSetLen (told self.old).script sectors (told self.old).faults (told self.new).faults result }
+        ensures script { (told self.new).script ≡ option_map after_call (told self.old).script };
 }
 
 /// A file or a stream that bytes are put to.
@@ -77,7 +192,35 @@ pub trait Sink {
         requires fits { length bytes.now ≤ 4096 }
         ensures told { (told self.new).bytes ≡ appended (told self.old).bytes (gone result bytes.now) }
         ensures taken { IfErr result (λ short. short.taken ≤ length bytes.now) }
-        ensures cause { HasCause (told self.old).faults (told self.new).faults result };
+        ensures cause { HasCause (told self.old).faults (told self.new).faults result }
+        ensures follows { FollowsPut (told self.old).script (told_length (told self.old).bytes) (length bytes.now) (told self.old).faults (told self.new).faults result }
+        ensures script { (told self.new).script ≡ option_map after_call (told self.old).script };
+}
+
+/// A file or a stream that bytes are taken from.
+pub trait Source {
+    ghost use Rattle.tv_out.specs.Told.{ToldSource};
+
+    // What the source tells of itself.
+    ghost told: { Self → ToldSource };
+
+    /// The count of faults. It never falls, and stands still at its last value.
+    fn faults(&self) -> u64
+        ensures { result ≡ (told self.now).faults };
+
+    /// Takes bytes into the front of the slice, and says how many; 0 for a slice that isn't empty says that nothing is
+    /// left.
+    ///
+    /// # Errors
+    /// `Failed` where the source failed; it gives nothing then, and what the slice holds is not said.
+    fn take(&mut self, out: &mut [u8]) -> Result<usize, Failed>
+        ensures bound { IfOk result (λ count. count ≤ length out.old) }
+        ensures ok { IfOk result (λ count. (told self.old).left ≡ prepended (take count out.new) (told self.new).left) }
+        ensures end { IfOk result (λ count. count ≡ 0 → 0 < length out.old → IsSpent (told self.old).left) }
+        ensures err { OnErr result ((told self.new).left ≡ (told self.old).left) }
+        ensures cause { HasCause (told self.old).faults (told self.new).faults result }
+        ensures follows { FollowsTake (told self.old).calls (told self.old).left (length out.old) (told self.old).faults (told self.new).faults result }
+        ensures calls { (told self.new).calls ≡ option_map with_call (told self.old).calls };
 }
 
 /// Random bytes.
@@ -97,6 +240,10 @@ pub trait Entropy {
     /// `Failed` where the object failed; it takes nothing then, and what the slice holds is not said.
     fn fill(&mut self, out: &mut [u8]) -> Result<(), Failed>
         ensures ok { OnOk result ((told self.new).bytes ≡ appended (told self.old).bytes out.new) }
+        ensures left { OnOk result ((told self.old).left ≡ prepended out.new (told self.new).left) }
         ensures err { OnErr result ((told self.new).bytes ≡ (told self.old).bytes) }
-        ensures cause { HasCause (told self.old).faults (told self.new).faults result };
+        ensures stays { OnErr result ((told self.new).left ≡ (told self.old).left) }
+        ensures cause { HasCause (told self.old).faults (told self.new).faults result }
+        ensures follows { FollowsFill (told self.old).calls (told self.old).left (length out.old) (told self.old).faults (told self.new).faults result }
+        ensures calls { (told self.new).calls ≡ option_map with_call (told self.old).calls };
 }

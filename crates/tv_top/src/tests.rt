@@ -1,11 +1,9 @@
 //! Whole commands over objects in memory, with values worked out by hand.
 
-mod memory;
-
 use super::*;
-use memory::{Bytes, File, NoEntropy};
 use std::process::Abort;
 use std::test::Fail;
+use tv_fake::{MemoryEntropy, MemorySink, MemoryStore, Named, Objects};
 
 /// The image that prints `A` and switches off.
 const HELLO: [u8; 28] = [
@@ -17,21 +15,47 @@ const HELLO: [u8; 28] = [
 #[derive(Drop)]
 struct Answer {
     status: u8,
-    out: Bytes,
-    err: Bytes,
+    out: MemorySink,
+    err: MemorySink,
 }
 
-/// Serves words over a file named `image`.
-fn serve(rt: &impl AllocGlobal, words: &[&str], file: File, out: Bytes) -> Result<Answer, Fail> {
+/// A list of numbers.
+fn numbers(rt: &impl AllocGlobal, numbers: &[u64]) -> Result<Vec<u64>, Fail> {
+    Ok(Vec::from_slice(rt.alloc(), numbers)?)
+}
+
+/// A store of the file `image` alone, of which the calls with these numbers fail.
+fn files(rt: &impl AllocGlobal, image: Vec<u8>, failing: &[u64]) -> Result<MemoryStore, Fail> {
+    let mut names = Vec::new(rt.alloc());
+    names.push(String::from_str(rt.alloc(), "image")?)?;
+    let mut objects = Objects::new(rt.alloc());
+    let name = String::from_str(rt.alloc(), "image")?;
+    objects.files.push(Named::new(name, image))?;
+    let failing = numbers(rt, failing)?;
+    Ok(MemoryStore::new(rt.alloc(), names, objects, failing)?)
+}
+
+/// A sink with room for so many bytes, of which the puts with these numbers fail.
+fn sink(rt: &impl AllocGlobal, room: usize, failing: &[u64]) -> Result<MemorySink, Fail> {
+    Ok(MemorySink::new(rt.alloc(), room, numbers(rt, failing)?)?)
+}
+
+/// Serves words over a store and an output.
+fn serve(
+    rt: &impl AllocGlobal,
+    words: &[&str],
+    store: MemoryStore,
+    out: MemorySink,
+) -> Result<Answer, Fail> {
     let mut texts = Vec::new(rt.alloc());
     for word in words {
         texts.push(String::from_str(rt.alloc(), word)?)?;
     }
     let mut outside = PlainOutside {
-        store: file,
+        store,
         out,
-        err: Bytes::new(),
-        random: NoEntropy,
+        err: sink(rt, 64, &[])?,
+        random: MemoryEntropy::new(Vec::new(rt.alloc()), Vec::new(rt.alloc())),
     };
     let ended = plain(rt.alloc(), &texts, &mut outside);
     let PlainOutside {
@@ -56,12 +80,8 @@ fn expect(rt: &impl Abort, answer: &Answer, status: u8, out: &str, err: &str) {
 
 /// Runs `flat image` on these bytes.
 fn run(rt: &impl AllocGlobal, image: &[u8]) -> Result<Answer, Fail> {
-    serve(
-        rt,
-        &["flat", "image"],
-        File::new(Vec::from_slice(rt.alloc(), image)?),
-        Bytes::new(),
-    )
+    let store = files(rt, Vec::from_slice(rt.alloc(), image)?, &[])?;
+    serve(rt, &["flat", "image"], store, sink(rt, 64, &[])?)
 }
 
 #[test]
@@ -150,8 +170,8 @@ fn words_that_are_no_command_line_are_refused(rt: HostRuntime) -> Result<(), Fai
         &["run", "image"],
     ];
     for words in rows {
-        let file = File::new(Vec::from_slice(rt.alloc(), &HELLO)?);
-        let answer = serve(&rt, words, file, Bytes::new())?;
+        let store = files(&rt, Vec::from_slice(rt.alloc(), &HELLO)?, &[])?;
+        let answer = serve(&rt, words, store, sink(&rt, 64, &[])?)?;
         expect(&rt, &answer, 2, "", "tv: bad command line\n");
     }
     Ok(())
@@ -159,16 +179,19 @@ fn words_that_are_no_command_line_are_refused(rt: HostRuntime) -> Result<(), Fai
 
 #[test]
 fn faults_outside_have_their_statuses(rt: HostRuntime) -> Result<(), Fail> {
-    let failing = File::failing(rt.alloc());
-    let answer = serve(&rt, &["flat", "image"], failing, Bytes::new())?;
-    expect(&rt, &answer, 4, "", "tv: cannot read image\n");
-
-    let hello = File::new(Vec::from_slice(rt.alloc(), &HELLO)?);
-    let answer = serve(&rt, &["flat", "-"], hello, Bytes::new())?;
-    expect(&rt, &answer, 4, "", "tv: cannot read -\n");
-
-    let hello = File::new(Vec::from_slice(rt.alloc(), &HELLO)?);
-    let answer = serve(&rt, &["flat", "image"], hello, Bytes::failing())?;
-    expect(&rt, &answer, 5, "", "tv: cannot write\n");
+    // Each by the name, the calls of the store that fail, the puts of the output that fail, and its room.
+    let rows: [(&str, &[u64], &[u64], usize, u8, &str); 5] = [
+        ("image", &[0], &[], 64, 4, "tv: cannot read image\n"),
+        ("-", &[], &[], 64, 4, "tv: cannot read -\n"),
+        ("image", &[], &[0], 64, 5, "tv: cannot write\n"),
+        ("image", &[], &[], 0, 5, "tv: cannot write\n"),
+        ("image", &[], &[1], 1, 0, ""),
+    ];
+    for (name, loads, puts, room, status, line) in rows {
+        let store = files(&rt, Vec::from_slice(rt.alloc(), &HELLO)?, loads)?;
+        let answer = serve(&rt, &["flat", name], store, sink(&rt, room, puts)?)?;
+        let out = if status == 0 { "A" } else { "" };
+        expect(&rt, &answer, status, out, line);
+    }
     Ok(())
 }

@@ -1,0 +1,4 @@
+pub mod Split
+pub mod Places
+pub mod Zero
+pub mod Views

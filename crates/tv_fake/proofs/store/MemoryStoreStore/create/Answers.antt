@@ -1,0 +1,29 @@
+use Rattle.std.proofs.Common.{Ok, Err, refl}
+use Rattle.tv_base.specs.declared.Failed.{Failed}
+use Rattle.tv_fake.specs.Opened.{created_sink}
+use Rattle.tv_fake.proofs.Views.{given, not_due, due, shelf-given}
+use Rattle.tv_fake.proofs.store.MemoryStoreStore.create.Goals as goal
+
+pub returns-in-Ok-clause-given : goal.returns-in-Ok-clause-given
+returns-in-Ok-clause-given c =
+    rw c.restart.ensures (given created_sink c.args.name.now c.args.self.now.objects.sinks.items c.in-Ok.sink c.in-Ok.ensures.gift.1)
+
+pub returns-in-Ok-clause-follows : goal.returns-in-Ok-clause-follows
+returns-in-Ok-clause-follows c = (
+  not_due created_sink c.args.self.now.calls c.args.name.now c.args.self.now.tally c.args.self.now.objects.sinks.items c.in-Ok.sink c.in-Ok.ensures.gift.0 c.in-Ok.ensures.gift.1,
+  rw c.in-Ok.ensures.gift.2 refl,
+)
+
+pub returns-in-Ok-clause-script : goal.returns-in-Ok-clause-script
+returns-in-Ok-clause-script c =
+    rw (c.in-Ok.ensures.counted, shelf-given {E = Failed} created_sink c.args.name.now c.args.self.now.objects.sinks.items c.give.new.shelf.items (Ok c.in-Ok.sink) c.in-Ok.ensures.shelf) refl
+
+pub returns-in-Err-clause-follows : goal.returns-in-Err-clause-follows
+returns-in-Err-clause-follows c = (
+  due created_sink c.args.self.now.calls c.args.name.now c.args.self.now.tally c.args.self.now.objects.sinks.items c.in-Err.ensures.gift.0,
+  c.in-Err.ensures.gift.1.total,
+)
+
+pub returns-in-Err-clause-script : goal.returns-in-Err-clause-script
+returns-in-Err-clause-script c =
+    rw (c.in-Err.ensures.counted, shelf-given {X = Unit {0}} created_sink c.args.name.now c.args.self.now.objects.sinks.items c.give.new.shelf.items (Err c.in-Err.failed) c.in-Err.ensures.shelf) refl

@@ -1,0 +1,6 @@
+pub mod DiskFields
+pub mod MemoryStore
+pub mod Opened
+pub mod Shelf
+pub mod Tally
+pub mod Giving

@@ -1,0 +1,23 @@
+//! The objects outside the program, as the system has them: files, streams and random bytes.
+//!
+//! Each counts its faults, and tells nothing of what it holds but a disk's number of sectors.
+#![tactic(auto)]
+
+mod disk;
+mod entropy;
+mod read;
+mod sink;
+mod source;
+mod store;
+
+pub use disk::FileDisk;
+pub use entropy::SystemEntropy;
+pub use sink::WriterSink;
+pub use source::FileSource;
+pub use store::FileStore;
+
+/// How often an operation goes on after an interruption.
+const RETRIES: usize = 64;
+
+#[cfg(test)]
+mod tests;
