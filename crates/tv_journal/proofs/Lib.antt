@@ -1,0 +1,9 @@
+pub mod Added
+pub mod Ends
+pub mod Files
+pub mod Fronts
+pub mod Goes
+pub mod Kept
+pub mod Records
+pub mod Spellings
+pub mod Written

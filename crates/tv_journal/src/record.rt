@@ -1,0 +1,116 @@
+//! The records that a journal keeps.
+
+ghost use Rattle.std.specs.Prelude.{◌≡◌, ◌≤◌, ◌<◌, OnSome, length, slice_get, vec_capacity};
+ghost use Rattle.tv_journal.specs.Grammar.{last_record};
+ghost use Rattle.tv_journal.specs.Journals.{added_within, pushed_within, run_of, entry_and_count, CanCount, FitsEntry};
+
+use crate::Entry;
+use tv_base::{HartNo, Why};
+
+/// A record as a journal keeps it.
+#[derive(Clone, Copy)]
+pub enum Record {
+    /// A run of events of one hart, and how many they are, at least 1.
+    Hart(HartNo, u32),
+    /// A tick, and what it adds to the time, at least 1.
+    Tick(u32),
+}
+
+/// The end of a run that no event made, and its place.
+#[derive(Clone, Copy)]
+pub struct EndLine {
+    /// The number of records before it.
+    pub records: usize,
+    /// The number of entries before it.
+    pub entries: u64,
+    /// The cause.
+    pub why: Why,
+}
+
+impl Record {
+    /// The entry, and how often it comes.
+    pub fn entry_and_count(self) -> (Entry, u32)
+        ensures { result ≡ entry_and_count self }
+    {
+        match self {
+            Record::Hart(hart, count) => (Entry::Hart(hart), count),
+            Record::Tick(n) => (Entry::Tick(n), 1),
+        }
+    }
+}
+
+/// The record behind so many.
+pub fn record_at(records: &[Record], at: usize) -> Option<Record>
+    ensures found { result ≡ slice_get records.now at }
+    ensures within { OnSome result (at < length records.now) }
+{
+    match records.get(at) {
+        Some(found) => Some(*found),
+        None => None,
+    }
+}
+
+/// Adds an entry to records, of which there are to be `room` at most. An event of the last record's hart joins that
+/// record, any other entry is a record of its own; `false` where that finds no room.
+#[inline(always)]
+pub fn add(records: &mut Vec<Record>, room: usize, entry: Entry) -> bool
+    requires room { length records.old.items ≤ room }
+    requires taken { room ≤ vec_capacity records.old }
+    requires few { CanCount (last_record records.old.items) }
+    ensures added { (result, records.new.items) ≡ added_within room records.old.items entry }
+    ensures taken { room ≤ vec_capacity records.new }
+    ensures fits { FitsEntry entry }
+{
+    match entry {
+        Entry::Hart(hart) => add_event(records, room, hart),
+        Entry::Tick(n) => add_record(records, room, Record::Tick(n)),
+    }
+}
+
+/// Adds an event of a hart.
+#[inline(always)]
+fn add_event(records: &mut Vec<Record>, room: usize, hart: HartNo) -> bool
+    requires room { length records.old.items ≤ room }
+    requires taken { room ≤ vec_capacity records.old }
+    requires few { CanCount (last_record records.old.items) }
+    ensures added { (result, records.new.items) ≡ added_within room records.old.items (Entry.Hart hart) }
+    ensures taken { room ≤ vec_capacity records.new }
+    ensures fits { hart < 8 }
+{
+    let number = hart.get();
+    match last_run(records) {
+        Some((last, count)) if number == last.get() => {
+            let at = records.len() - 1;
+            records[at] = Record::Hart(last, count + 1);
+            true
+        }
+        _ => add_record(records, room, Record::Hart(hart, 1)),
+    }
+}
+
+/// The hart and the count of the last record, if it is one of a hart.
+#[inline(always)]
+fn last_run(records: &[Record]) -> Option<(HartNo, u32)>
+    ensures { result ≡ run_of (last_record records.now) }
+{
+    match records.last() {
+        Some(Record::Hart(hart, count)) => Some((*hart, *count)),
+        Some(Record::Tick(_)) | None => None,
+    }
+}
+
+/// Adds a record.
+fn add_record(records: &mut Vec<Record>, room: usize, more: Record) -> bool
+    requires room { length records.old.items ≤ room }
+    requires taken { room ≤ vec_capacity records.old }
+    ensures added { (result, records.new.items) ≡ pushed_within room records.old.items more }
+    ensures taken { room ≤ vec_capacity records.new }
+{
+    if records.len() >= room {
+        return false;
+    }
+    match records.push(more) {
+        Ok(()) => true,
+        Err(_) => unreachable!(),
+    }
+}
