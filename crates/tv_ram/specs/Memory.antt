@@ -1,5 +1,5 @@
 -- Guest memory as a list of bytes, which begin at one address. Numbers stand in it little-endian (RISC-V Unprivileged ISA,
--- section "Base Integer Load and Store Instructions").
+-- chapter "RV32I", "Load and Store Instructions").
 use Rattle.std.specs.Prelude.{◌≡◌, ◌==◌, ◌&&◌, ◌||◌, ℕ, ◌+◌, ◌-◌, ◌*◌, ◌%◌, ◌^◌, ◌<◌, ◌≤◌, nat_le, if◌then◌else◌, Bool, List, ◌++◌, length, take, drop, replicate, Option, Some, None}
 use Rattle.byteorder.specs.Endian.{little_number, little_bytes}
 
