@@ -1,6 +1,6 @@
 //! A store in memory.
 
-ghost use Rattle.std.specs.Prelude.{◌≡◌, IfOk, IfSome};
+ghost use Rattle.std.specs.Prelude.{◌≡◌, [], IfOk, IfSome};
 ghost use Rattle.tv_out.specs.Calls.{with_call};
 ghost use Rattle.tv_out.specs.Shelf.{first_named, after_giving};
 ghost use Rattle.tv_fake.specs.Giving.{IsAdmission, IsGift};
@@ -31,7 +31,12 @@ pub struct Objects {
 
 impl Objects {
     /// None at all.
-    pub fn new(alloc: Global) -> Objects {
+    pub fn new(alloc: Global) -> Objects
+        ensures files { result.files.items ≡ [] }
+        ensures disks { result.disks.items ≡ [] }
+        ensures sinks { result.sinks.items ≡ [] }
+        ensures sources { result.sources.items ≡ [] }
+    {
         Objects {
             files: Vec::new(alloc),
             disks: Vec::new(alloc),

@@ -25,27 +25,37 @@ fn loaded(
     }
 }
 
+/// Creates a file and puts bytes into it, if there are any.
+fn is_put(store: &mut FileStore<'_, HostRuntime>, name: &str, bytes: &[u8]) -> bool {
+    match store.create(name) {
+        Ok(mut sink) => { bytes.is_empty() || (bytes.len() <= 4096 && sink.put(bytes).is_ok()) }
+        Err(_) => false,
+    }
+}
+
+/// How many bytes a source gives at once, at most 8, and how many after that; none where it failed.
+fn taken(store: &mut FileStore<'_, HostRuntime>, name: &str) -> Option<(usize, usize)> {
+    let mut source = store.open_source(name).ok()?;
+    let first = source.take(&mut [0; 8]).ok()?;
+    let second = source.take(&mut [0; 8]).ok()?;
+    Some((first, second))
+}
+
 #[test]
 fn files_are_created_loaded_and_taken(rt: HostRuntime) -> Result<(), Fail> {
     let name = path(&rt, "file")?;
     let mut store = FileStore::new(&rt);
-    let mut sink = store.create(&name).map_err(|_| "not created")?;
-    assert_eq!(rt; sink.put(b"hello"), Ok(()));
+    assert!(rt; is_put(&mut store, &name, b"hello"));
     assert_eq!(rt; loaded(&rt, &mut store, &name, 5), Ok(5));
     assert_eq!(rt; loaded(&rt, &mut store, &name, 4), Err(LoadFault::TooLong));
-
-    let mut source = store.open_source(&name).map_err(|_| "not opened")?;
-    let mut out = [0; 8];
-    assert_eq!(rt; source.take(&mut out), Ok(5));
-    assert_eq!(rt; out, *b"hello\0\0\0");
-    assert_eq!(rt; source.take(&mut out), Ok(0));
-
-    let _emptied = store.create(&name).map_err(|_| "not emptied")?;
+    assert_eq!(rt; taken(&mut store, &name), Some((5, 0)));
+    assert!(rt; is_put(&mut store, &name, b""));
     assert_eq!(rt; loaded(&rt, &mut store, &name, 5), Ok(0));
     fs::remove_file(&rt, &name)?;
     assert_eq!(rt; loaded(&rt, &mut store, &name, 5), Err(LoadFault::Failed));
-    assert!(rt; store.open_source(&name).is_err());
-    assert!(rt; store.open_source("/").is_err());
+    for missing in [name.as_str(), "/"] {
+        assert_eq!(rt; taken(&mut store, missing), None);
+    }
     assert_eq!(rt; store.faults(), 3);
     Ok(())
 }
@@ -64,35 +74,46 @@ fn is_written(disk: &mut impl Disk, at: u32, byte: u8) -> bool {
     at < disk.sectors() && disk.write(at, &[byte; 512]).is_ok()
 }
 
+/// Makes a disk one of three sectors, and writes the last; how many faults that made, or none where a call failed.
+fn grown(store: &mut FileStore<'_, HostRuntime>, name: &str) -> Option<u64> {
+    let mut disk = store.open_disk(name, false).ok()?;
+    if disk.sectors() != 1 || disk.set_len(3).is_err() || !is_written(&mut disk, 2, 9) {
+        return None;
+    }
+    disk.flush().ok()?;
+    Some(disk.faults())
+}
+
+/// The first and the last bytes of three sectors, and how many faults a write of a disk that is opened for reading made.
+fn looked_at(store: &mut FileStore<'_, HostRuntime>, name: &str) -> Option<([(u8, u8); 3], u64)> {
+    let mut disk = store.open_disk(name, true).ok()?;
+    let sectors = [
+        ends(&mut disk, 0)?,
+        ends(&mut disk, 1)?,
+        ends(&mut disk, 2)?,
+    ];
+    if is_written(&mut disk, 0, 5) || ends(&mut disk, 3).is_some() {
+        return None;
+    }
+    Some((sectors, disk.faults()))
+}
+
 #[test]
 fn a_file_is_a_disk_of_whole_sectors(rt: HostRuntime) -> Result<(), Fail> {
     let name = path(&rt, "disk")?;
-    fs::write(&rt, &name, [7u8; 1000].as_slice())?;
+    // One sector of sevens, and a rest that is no sector.
+    let bytes = vec![in rt.alloc(); 7; 1000]?;
+    fs::write(&rt, &name, bytes.as_slice())?;
     let mut store = FileStore::new(&rt);
-    let mut disk = store.open_disk(&name, false).map_err(|_| "not opened")?;
-    assert_eq!(rt; disk.sectors(), 1);
-    assert_eq!(rt; disk.set_len(3), Ok(()));
-    assert_eq!(rt; disk.sectors(), 3);
-    assert!(rt; is_written(&mut disk, 2, 9));
-    assert_eq!(rt; disk.flush(), Ok(()));
-    assert_eq!(rt; disk.faults(), 0);
-
-    let mut again = store
-        .open_disk(&name, true)
-        .map_err(|_| "not opened again")?;
-    for (sector, bytes) in [
-        (0, Some((7, 7))),
-        (1, Some((0, 0))),
-        (2, Some((9, 9))),
-        (3, None),
-    ] {
-        assert_eq!(rt; ends(&mut again, sector), bytes);
-    }
-    assert!(rt; !is_written(&mut again, 0, 5));
-    assert_eq!(rt; again.faults(), 1);
+    assert_eq!(rt; grown(&mut store, &name), Some(0));
+    assert_eq!(rt;
+        looked_at(&mut store, &name),
+        Some(([(7, 7), (0, 0), (9, 9)], 1))
+    );
     fs::remove_file(&rt, &name)?;
-    assert!(rt; store.open_disk(&name, false).is_err());
-    assert!(rt; store.open_disk("/", true).is_err());
+    for missing in [name.as_str(), "/"] {
+        assert!(rt; store.open_disk(missing, true).is_err());
+    }
     assert_eq!(rt; store.faults(), 2);
     Ok(())
 }
