@@ -1,0 +1,68 @@
+-- Harts at their start.
+use Rattle.std.proofs.Common.{◌≡◌, ℕ, zero, suc, ◌+◌, ◌<◌, ◌≤◌, List, [], ◌∷◌, ◌++◌, Option, None, Bool, true, false, cond, leb, eqb, length, get_or, refl, ap, sym, ◌∙◌, subst, arith, length-append, inl, inr}
+use Rattle.std.specs.List.{AllByRecursion}
+use Rattle.std.proofs.Math.ListN.{get_or-eq_default}
+use Rattle.std.proofs.lemmas.Bool.{cases_lt, le-leb}
+use Rattle.std.proofs.lemmas.List.{get_or_append_left, get_or_push}
+use Rattle.tv_hart.specs.Hart.{first_hart}
+use Rattle.tv_hart.specs.HartState.{HartState}
+use Rattle.std.specs.Bool.{OnTrue}
+use Rattle.std.proofs.lemmas.Bool.Decides.{eqb_tells}
+use Rattle.tv_machine_file.specs.declared.machine.Machine.{Machine}
+use Rattle.tv_ram.specs.Memory.{is_inside, ram_base, with_bytes, with_image, zeros}
+use Rattle.tv_ram.proofs.Inside.{image_written, length_zeros}
+use Rattle.tv_spec.specs.declared.Mode.TheVariants as mode
+use Rattle.tv_spec.specs.declared.Shown.TheVariants as shown
+use Rattle.tv_spec.specs.LocalState.{LocalState}
+use Rattle.tv_spec.specs.Setup.{Setup}
+use Rattle.tv_model.specs.Guest.{AreFirst, IsReady, IsFirst}
+use Rattle.tv_model.proofs.Made.{same_state, same_function, seen}
+
+pub none-first : AreFirst [] 0
+none-first = record { count_is = refl; each = λ number. refl; ready = tt }
+
+pub ready-push : (harts : List HartState) (hart : HartState) → AllByRecursion IsReady harts → IsReady hart → AllByRecursion IsReady (harts ++ hart ∷ [])
+ready-push [] hart ready here = (here, tt)
+ready-push (first ∷ harts) hart ready here = (ready.0, ready-push harts hart ready.1 here)
+
+-- a hart more
+pub one-more : (harts : List HartState) (count : ℕ) → AreFirst harts count → AreFirst (harts ++ first_hart count ∷ []) (count + 1)
+one-more harts count first = record {
+  count_is = omega (arith, length-append harts (first_hart count ∷ []), first.count_is);
+  each = λ (k : ℕ). elim (cases_lt k (length harts)) [
+    inl before ↦ get_or_append_left harts (first_hart count ∷ []) (first_hart k) k before ∙ first.each k
+    | inr not_before ↦ elim (cases_lt (length harts) k) [
+        inl behind ↦ get_or-eq_default (harts ++ first_hart count ∷ []) (first_hart k) {n = k} (omega (arith, length-append harts (first_hart count ∷ [])))
+        | inr not_behind ↦
+          let here : length harts ≡ k = omega arith in
+          get_or_push harts (first_hart count) (first_hart k) k here ∙ ap first_hart (sym first.count_is ∙ here)
+      ]
+  ];
+  ready = ready-push harts (first_hart count) first.ready refl;
+}
+
+pub all-first : (harts : List HartState) (count : ℕ) → AreFirst harts count → ◌≡◌ {A = ℕ → HartState} (λ k. get_or harts k (first_hart k)) first_hart
+all-first harts count first = same_function _ _ first.each
+
+-- an image that fits lies within memory
+pub image-inside : (bytes n : ℕ) → n ≤ bytes → is_inside bytes ram_base n ≡ true
+image-inside bytes n fits =
+    let last : leb (ram_base + n) (ram_base + bytes) ≡ true = le-leb (ram_base + n) (ram_base + bytes) (omega arith) in
+    elim (eqb_tells n 0) [ inl none ↦ rw none.0 refl | inr some ↦ rw (some.0, last) refl ]
+
+-- a machine as its run begins
+pub first-guest : (machine : Machine) (image blank ram : List ℕ) (harts : List HartState) (local : LocalState) (loaded : Bool) → AreFirst harts machine.harts → blank ≡ zeros machine.ram
+    → loaded ≡ is_inside (length blank) ram_base (length image) → OnTrue loaded (ram ≡ with_bytes blank ram_base image) → length image ≤ machine.ram
+    → local ≡ record { ram = ram; shown = shown.Nothing }
+    → IsFirst (seen harts local.ram 0 mode.Running 0 false machine.steps) machine image
+first-guest machine image blank ram harts local loaded first blank_is loaded_is written fits local_is =
+    let long : length blank ≡ machine.ram = ap length blank_is ∙ length_zeros machine.ram in
+    let fits_blank : length image ≤ length blank = omega arith in
+    let yes : loaded ≡ true = loaded_is ∙ image-inside (length blank) (length image) fits_blank in
+    let done : OnTrue true (ram ≡ with_bytes blank ram_base image) = subst (λ (b : Bool). OnTrue b (ram ≡ with_bytes blank ram_base image)) yes written in
+    let ram_is : local.ram ≡ with_image machine.ram image =
+        ap (λ (l : LocalState). l.ram) local_is ∙ done ∙ ap (λ (xs : List ℕ). with_bytes xs ram_base image) blank_is ∙ image_written machine.ram image in
+    record {
+      setup = ap (λ (k : ℕ). let setup : Setup = record { harts = k; steps = machine.steps } in setup) first.count_is;
+      state = same_state _ _ (all-first harts machine.harts first) ram_is refl refl refl refl;
+    }

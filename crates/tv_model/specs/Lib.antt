@@ -1,0 +1,4 @@
+pub mod Guest
+pub mod GuestState
+pub mod Monitor
+pub mod MonitorState

@@ -1,0 +1,38 @@
+-- What the monitor's calls do.
+use Rattle.std.specs.Prelude.{◌≡◌, ℕ, ◌++◌, Option, Some, None, Bool, true, false, Result, Ok, Err, ⊤}
+use Rattle.tv_base.specs.declared.Why.{Why}
+use Rattle.tv_journal.specs.declared.Entry.{Entry}
+use Rattle.tv_spec.specs.declared.Mode.{Mode}
+use Rattle.tv_spec.specs.declared.Mode.TheVariants as mode
+use Rattle.tv_spec.specs.Shows.{bytes_of, exit_status}
+use Rattle.tv_spec.specs.Step.{Move, made, ended, Can}
+use Rattle.tv_model.specs.declared.monitor.StepFault.{StepFault}
+use Rattle.tv_model.specs.declared.monitor.StepFault.TheVariants as step_fault
+use Rattle.tv_model.specs.Guest.{state_of, IsMade, IsAnswered}
+use Rattle.tv_model.specs.MonitorState.{MonitorState}
+
+-- a step was made, and its byte at the debug port came after those before
+pub record IsStep (old new : MonitorState) (move : Move) : Type 0 where
+  pub step : IsMade old.guest new.guest move
+  pub console : new.console ≡ old.console ++ bytes_of (state_of old.guest) move
+
+-- there is no such step, and nothing was changed
+pub record IsNoStep (old new : MonitorState) (move : Move) : Type 0 where
+  pub cannot : ¬ Can old.guest.setup (state_of old.guest) move
+  pub same : new ≡ old
+
+-- an entry by the answer to it
+abbrev pub StepsSo : MonitorState → MonitorState → Entry → Result ⊤ StepFault → Type 0
+StepsSo old new entry (Ok _) = IsStep old new (made entry)
+StepsSo old new entry (Err step_fault.Illegal) = IsNoStep old new (made entry)
+StepsSo old new entry (Err step_fault.Memory) = new ≡ old
+
+-- an outer end by the answer to it
+abbrev pub EndsSo : MonitorState → MonitorState → Why → Bool → Type 0
+EndsSo old new cause true = IsStep old new (ended cause)
+EndsSo old new cause false = IsNoStep old new (ended cause)
+
+-- the exit status; none where the run goes on
+abbrev pub status_of : Mode → Option ℕ
+status_of mode.Running = None
+status_of (mode.Ending cause) = Some (exit_status cause)

@@ -1,0 +1,161 @@
+//! A guest's machine: harts, memory and time, which move by the entries of a journal.
+
+ghost use Rattle.std.specs.Prelude.{◌≡◌, ◌≢◌, ◌≤◌, ◌↔◌, IsTrue, None, IfOk, length};
+ghost use Rattle.tv_machine_file.specs.Valid.{IsValid};
+ghost use Rattle.tv_journal.specs.Grammar.{cause_byte};
+ghost use Rattle.tv_journal.specs.declared.Entry.TheVariants as entry;
+ghost use Rattle.tv_spec.specs.Step.{made, ended, mode_by, end_at, end_shown};
+ghost use Rattle.tv_model.specs.Guest.{IsAnswered, IsStepped, IsFirst, AreFirst};
+
+use crate::local::Local;
+use std::alloc::Global;
+use std::marker::Model;
+use tv_base::{HartNo, Memory, RAM_BASE, Why};
+use tv_hart::{Did, Hart};
+use tv_intc::Finish;
+use tv_machine_file::Machine;
+use tv_ram::Ram;
+use tv_spec::{Mode, Shown};
+
+/// A guest's machine.
+#[derive(Drop)]
+pub struct Guest {
+    harts: Vec<Hart>,
+    local: Local,
+    time: u64,
+    mode: Mode,
+    events: u32,
+    ticked: bool,
+    steps: u32,
+}
+
+impl Model for Guest {
+    ghost use Rattle.std.specs.Prelude.{length};
+    ghost use Rattle.tv_model.specs.GuestState.{GuestState};
+
+    ghost Value = { GuestState };
+
+    ghost use Rattle.tv_model.specs.Guest.{IsGuest};
+
+    ghost view = { λ g. record { setup = record { harts = length g.harts.items; steps = g.steps }; harts = g.harts.items; ram = g.local.ram; time = g.time; mode = g.mode; events = g.events; ticked = g.ticked } };
+
+    ghost invariant = { λ g. IsGuest g.harts.items g.local.shown g.mode g.events g.steps };
+}
+
+impl Guest {
+    /// The machine with an image of up to `ram` bytes, as a run begins.
+    ///
+    /// # Errors
+    /// Want of memory.
+    pub fn new(alloc: Global, machine: &Machine, image: &[u8]) -> Result<Guest, Memory>
+        requires valid { IsValid machine.now }
+        requires fits { length image.now ≤ machine.now.ram }
+        ensures { IfOk result (λ guest. IsFirst guest machine.now image.now) }
+    {
+        let mut ram = match Ram::new(alloc, machine.ram) {
+            Ok(ram) => ram,
+            Err(_) => return Err(Memory),
+        };
+        let _loaded = ram.write(RAM_BASE, image);
+        let harts = first_harts(alloc, machine.harts)?;
+        Ok(Guest {
+            harts,
+            local: Local::new(ram),
+            time: 0,
+            mode: Mode::Running,
+            events: 0,
+            ticked: false,
+            steps: machine.steps,
+        })
+    }
+
+    /// Whether the run goes on.
+    pub fn mode(&self) -> Mode
+        ensures { result ≡ self.now.mode }
+    {
+        self.mode
+    }
+
+    /// An event of a hart, and what it showed outside memory; `None` exactly where no event of it may stand, and nothing
+    /// is changed then.
+    #[inline(always)]
+    pub fn hart_event(&mut self, hart: HartNo) -> Option<Shown>
+        ensures { IsStepped self.old self.new hart result }
+    {
+        let number = usize::from(hart.get());
+        if number >= self.harts.len() || !is_running(self.mode) {
+            return None;
+        }
+        match self.harts[number].step(&mut self.local) {
+            Did::Retired => {}
+            Did::Held | Did::Full => unreachable!(),
+            Did::Unbuilt => return None,
+        }
+        let shown = self.local.take_shown();
+        self.events += 1;
+        self.ticked = false;
+        self.mode = mode_after(shown, self.events == self.steps);
+        Some(shown)
+    }
+
+    /// A tick: time goes on by `n`. False exactly where no such tick may stand, and nothing is changed then.
+    pub fn tick(&mut self, n: u32) -> bool
+        ensures { IsAnswered self.old self.new (made (entry.Tick n)) result }
+    {
+        if !is_running(self.mode) || self.ticked || n == 0 {
+            return false;
+        }
+        self.time = self.time.wrapping_add(u64::from(n));
+        self.ticked = true;
+        true
+    }
+
+    /// An end that no entry made. False exactly where the run ended before, and nothing is changed then.
+    pub fn end(&mut self, why: Why) -> bool
+        requires { cause_byte why ≢ None }
+        ensures { IsAnswered self.old self.new (ended why) result }
+    {
+        if !is_running(self.mode) {
+            return false;
+        }
+        self.mode = Mode::Ending(why);
+        true
+    }
+}
+
+/// Harts at their start.
+fn first_harts(alloc: Global, count: u8) -> Result<Vec<Hart>, Memory>
+    requires { count ≤ 8 }
+    ensures { IfOk result (λ harts. AreFirst harts.items count) }
+{
+    let mut harts = Vec::new(alloc);
+    for number in 0..count {
+        let Some(hart) = HartNo::new(number) else {
+            unreachable!();
+        };
+        match harts.push(Hart::new(hart)) {
+            Ok(()) => {}
+            Err(_) => return Err(Memory),
+        }
+    }
+    Ok(harts)
+}
+
+/// Whether a run goes on.
+fn is_running(mode: Mode) -> bool
+    ensures { IsTrue result ↔ (mode ≡ Mode.Running) }
+{
+    matches!(mode, Mode::Running)
+}
+
+/// The mode after an event, which may be the last one that a run may have.
+fn mode_after(shown: Shown, last: bool) -> Mode
+    ensures { result ≡ mode_by (end_at last (end_shown shown)) }
+{
+    match shown {
+        Shown::Finish(Finish::Off) => Mode::Ending(Why::PowerOff),
+        Shown::Finish(Finish::Failed(code)) => Mode::Ending(Why::Failed(code)),
+        Shown::Nothing | Shown::Byte(_) if last => Mode::Ending(Why::Steps),
+        Shown::Nothing | Shown::Byte(_) => Mode::Running,
+    }
+}

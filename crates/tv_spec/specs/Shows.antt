@@ -1,0 +1,51 @@
+-- What a run shows, as folds over its moves.
+use Rattle.std.specs.Prelude.{ℕ, List, [], ◌∷◌, ◌++◌, Option, Some, None}
+use Rattle.tv_base.specs.declared.Why.{Why}
+use Rattle.tv_base.specs.declared.Why.TheVariants as why
+use Rattle.tv_journal.specs.declared.Entry.TheVariants as entry
+use Rattle.tv_spec.specs.declared.Shown.{Shown}
+use Rattle.tv_spec.specs.declared.Shown.TheVariants as shown
+use Rattle.tv_spec.specs.Setup.{Setup}
+use Rattle.tv_spec.specs.State.{State}
+use Rattle.tv_spec.specs.Step.{Move, made, ended, done, event_of, end_of_event}
+
+-- the byte of an event at the debug port
+abbrev pub byte_shown : Shown → List ℕ
+byte_shown (shown.Byte byte) = byte ∷ []
+byte_shown _ = []
+
+abbrev pub bytes_of : State → Move → List ℕ
+bytes_of s (made (entry.Hart hart)) = byte_shown (event_of s hart).2.shown
+bytes_of s _ = []
+
+-- the bytes stored to the debug port
+abbrev pub debug_bytes : Setup → State → List Move → List ℕ
+debug_bytes setup s [] = []
+debug_bytes setup s (move ∷ moves) = bytes_of s move ++ debug_bytes setup (done setup s move) moves
+
+-- the cause for which a move ends the run
+abbrev pub end_of : Setup → State → Move → Option Why
+end_of setup s (made (entry.Hart hart)) = end_of_event setup s hart
+end_of setup s (made (entry.Tick n)) = None
+end_of setup s (ended cause) = Some cause
+
+abbrev pub or_else : Option Why → Option Why → Option Why
+or_else None later = later
+or_else (Some cause) later = Some cause
+
+-- the first cause of ending; none where the run is open
+abbrev pub cause_of_end : Setup → State → List Move → Option Why
+cause_of_end setup s [] = None
+cause_of_end setup s (move ∷ moves) = or_else (end_of setup s move) (cause_of_end setup (done setup s move) moves)
+
+-- the exit status of a run by its cause
+abbrev pub exit_status : Why → ℕ
+exit_status why.PowerOff = 0
+exit_status why.Stopped = 0
+exit_status (why.Failed code) = 1
+exit_status (why.Lost device) = 5
+exit_status why.DebugLost = 5
+exit_status why.Steps = 6
+exit_status why.Full = 7
+exit_status why.ListenFailed = 10
+exit_status why.CrewRefused = 11

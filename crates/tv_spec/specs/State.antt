@@ -1,0 +1,30 @@
+-- The state of the in-process monitor. There is no message, no tube and no thread in it.
+use Rattle.std.specs.Prelude.{ℕ, List, Bool, false, Option, Some, None}
+use Rattle.tv_base.specs.declared.Why.{Why}
+use Rattle.tv_hart.specs.Hart.{first_hart}
+use Rattle.tv_hart.specs.HartState.{HartState}
+use Rattle.tv_machine_file.specs.declared.machine.Machine.{Machine}
+use Rattle.tv_ram.specs.Memory.{with_image}
+use Rattle.tv_spec.specs.declared.Mode.{Mode}
+use Rattle.tv_spec.specs.declared.Mode.TheVariants as mode
+
+-- the harts by their numbers; guest memory; the time; whether the run goes on; how many events the harts made; and
+-- whether the last entry was a tick
+pub record State : Type 0 where
+  pub harts : ℕ → HartState
+  pub ram : List ℕ
+  pub time : ℕ
+  pub mode : Mode
+  pub events : ℕ
+  pub ticked : Bool
+
+-- the image lies at the start of memory, and each hart begins at its first byte with its number in x10
+abbrev pub first_state : Machine → List ℕ → State
+first_state machine image = record {
+  harts = first_hart;
+  ram = with_image machine.ram image;
+  time = 0;
+  mode = mode.Running;
+  events = 0;
+  ticked = false;
+}
