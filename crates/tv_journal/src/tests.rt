@@ -28,7 +28,7 @@ struct Bytes {
 impl Sink for Bytes {
     ghost use Rattle.std.specs.Prelude.{None};
 
-    ghost told = { λ sink. record { bytes = None; faults = sink.faults } };
+    ghost told = { λ sink. record { bytes = None; faults = sink.faults; script = None } };
 
     fn faults(&self) -> u64 {
         self.faults
