@@ -1,5 +1,5 @@
 -- Where the first object of a name stands.
-use Rattle.std.proofs.Common.{◌≡◌, ◌≢◌, ℕ, ◌+◌, ◌<◌, zero, suc, Bool, true, false, cond, List, [], ◌∷◌, Option, Some, None, length, set, get_or, refl, ap, sym, ◌∙◌, subst, Contains, arith}
+use Rattle.std.proofs.Common.{◌≡◌, ◌≢◌, ℕ, ◌+◌, zero, suc, Bool, true, false, cond, List, [], ◌∷◌, Option, Some, None, set, refl, ap, sym, ◌∙◌, subst, Contains, arith}
 use Rattle.std.specs.Option.{MatchOption, unwrap_or}
 use Rattle.std.specs.List.{position_from}
 use Rattle.std.specs.String.{string_bytes}

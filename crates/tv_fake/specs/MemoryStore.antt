@@ -1,7 +1,7 @@
 -- What a store in memory tells.
-use Rattle.std.specs.Prelude.{◌≡◌, ℕ, List, Option, Some, None, IsSome, IfSome, String, map}
+use Rattle.std.specs.Prelude.{◌≡◌, ℕ, List, Some, IsSome, IfSome, String, map}
 use Rattle.std.specs.String.{string_bytes}
-use Rattle.tv_out.specs.Told.{ToldStore, StoreScript, Files}
+use Rattle.tv_out.specs.Told.{ToldStore, Files}
 use Rattle.tv_out.specs.Shelf.{first_named}
 use Rattle.tv_fake.specs.declared.store.MemoryStore.{MemoryStore}
 use Rattle.tv_fake.specs.declared.store.Objects.{Objects}

@@ -1,5 +1,5 @@
 -- What an object tells when a store gives it: nothing was done with it yet.
-use Rattle.std.specs.Prelude.{[], Option, None, Some}
+use Rattle.std.specs.Prelude.{[]}
 use Rattle.std.specs.Option.{option_map}
 use Rattle.tv_out.specs.Calls.{Calls, RoomScript}
 use Rattle.tv_out.specs.Disk.{ToldDisk, DiskContent}

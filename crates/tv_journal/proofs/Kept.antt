@@ -1,6 +1,6 @@
 -- What a journal keeps stays so where an entry is added.
-use Rattle.std.proofs.Common.{◌≡◌, ℕ, ◌+◌, ◌-◌, ◌^◌, ◌<◌, ◌≤◌, leb, List, [], ◌∷◌, ◌++◌, Option, Some, None, Bool, true, false, cond, replicate, length, take, drop, refl, ap, sym, ◌∙◌, arith, length-append, inl, inr}
-use Rattle.std.proofs.lemmas.Bool.{false≢true}
+use Rattle.std.proofs.Common.{◌≡◌, ℕ, ◌+◌, ◌-◌, ◌^◌, ◌<◌, ◌≤◌, leb, List, [], ◌∷◌, ◌++◌, Option, Some, None, Bool, true, false, cond, replicate, length, take, drop, refl, ap, sym, ◌∙◌, arith, length-append, inl, inr, ltb, set, length-set, add-one}
+use Rattle.std.proofs.lemmas.Bool.{false≢true, le-leb}
 use Rattle.std.proofs.lemmas.Bool.Decides.{eqb_tells}
 use Rattle.std.proofs.lemmas.List.{take-append-le, drop-append-le, length-replicate}
 use Rattle.std.specs.List.{AllByRecursion}
@@ -11,7 +11,7 @@ use Rattle.tv_journal.specs.declared.record.Record.{Record}
 use Rattle.tv_journal.specs.declared.record.Record.TheVariants as record_of
 use Rattle.tv_journal.specs.Entries.{entries_of, record_count}
 use Rattle.tv_journal.specs.Grammar.{IsRecord, Differs, AreApart, EndFits, last_record, IsTick, outer_of}
-use Rattle.tv_journal.specs.Journals.{JournalState, IsKept, IsEntry, MayFollow, FitsEntry, CanCount, added, hart_added, added_within, pushed}
+use Rattle.tv_journal.specs.Journals.{JournalState, IsKept, IsEntry, MayFollow, FitsEntry, CanCount, added, hart_added, added_within, pushed, has_room, joins_last}
 use Rattle.tv_journal.proofs.Added.{last_after-none, each-push, apart-push, ends-with, entries-push, entries-added, each-longer, apart-longer}
 use Rattle.tv_journal.proofs.Records.{count-again}
 
@@ -128,3 +128,35 @@ pushed-no rs items end events room capacity payload e kept few fits is added_is 
     let parts = chosen-no (leb (length (added rs e)) room) items (added rs e) rs added_is in
     let test : leb (record_count (entries_of rs ++ e ∷ [])) room ≡ false = rw (count-added rs end events room capacity e kept few fits is) parts.0 in
     rw (test, parts.1) refl
+
+-- the records with an entry added are as many, or one more
+pub length-hart_added : (rs : List Record) (hart : ℕ) (last : Option Record) → length (hart_added rs hart last) ≡ cond (joins_last last (entry.Hart hart)) (length rs) (length rs + 1)
+length-hart_added rs hart None = length-append rs (record_of.Hart hart 1 ∷ [])
+length-hart_added rs hart (Some (record_of.Tick n)) = length-append rs (record_of.Hart hart 1 ∷ [])
+length-hart_added rs hart (Some (record_of.Hart last count)) = elim (eqb_tells hart last) [
+  | inl same ↦ rw same.0 (length-set rs (length rs - 1) (record_of.Hart last (count + 1)))
+  | inr other ↦ rw other.0 (length-append rs (record_of.Hart hart 1 ∷ []))
+]
+
+pub joins-tick : (last : Option Record) (n a b : ℕ) → cond (joins_last last (entry.Tick n)) a b ≡ b
+joins-tick None n a b = refl
+joins-tick (Some (record_of.Tick _)) n a b = refl
+joins-tick (Some (record_of.Hart _ _)) n a b = refl
+
+pub length-added : (rs : List Record) (e : Entry) → length (added rs e) ≡ cond (joins_last (last_record rs) e) (length rs) (length rs + 1)
+length-added rs (entry.Tick n) = length-append rs (record_of.Tick n ∷ []) ∙ sym (joins-tick (last_record rs) n (length rs) (length rs + 1))
+length-added rs (entry.Hart hart) = length-hart_added rs hart (last_record rs)
+
+-- so the test of the code is the definition's
+pub room-by : (joins : Bool) (count room after : ℕ) → count ≤ room → after ≡ cond joins count (count + 1) → cond joins true (ltb count room) ≡ leb after room
+room-by true count room after within is = sym (le-leb after room (omega arith))
+room-by false count room after within is = rw is (rw add-one refl)
+
+pub has-room : (rs : List Record) (end : Option EndLine) (events room capacity payload : ℕ) (e : Entry) (journal : JournalState) (joins : Bool) → IsKept rs end events room capacity
+    → seen rs end room payload ≡ journal → length journal.entries < 2 ^ 32 - 1 → FitsEntry e → IsEntry e → joins ≡ joins_last (last_record rs) e
+    → cond joins true (ltb (length rs) room) ≡ has_room journal e
+has-room rs end events room capacity payload e journal joins kept is few fits entry_is joins_is =
+    let few_rs : length (entries_of rs) < 2 ^ 32 - 1 = rw (ap (λ (j : JournalState). length j.entries) is) few in
+    room-by joins (length rs) room (length (added rs e)) kept.room (length-added rs e ∙ ap (λ (b : Bool). cond b (length rs) (length rs + 1)) (sym joins_is))
+    ∙ ap (λ (n : ℕ). leb n room) (sym (count-added rs end events room capacity e kept few_rs fits entry_is))
+    ∙ ap (λ (j : JournalState). has_room j e) is

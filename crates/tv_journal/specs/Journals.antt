@@ -21,10 +21,14 @@ pub record JournalState : Type 0 where
 abbrev pub free_records : JournalState → ℕ
 free_records journal = journal.record_room - record_count journal.entries
 
+-- whether there is room for the records then
+abbrev pub has_room : JournalState → Entry → Bool
+has_room journal e = nat_le (record_count (journal.entries ++ e ∷ [])) journal.record_room
+
 -- an entry is added exactly where there is room for the records then
 abbrev pub pushed : JournalState → Entry → Bool × JournalState
 pushed journal e =
-    if nat_le (record_count (journal.entries ++ e ∷ [])) journal.record_room
+    if has_room journal e
     then (true, record journal { entries = journal.entries ++ e ∷ [] })
     else (false, journal)
 
@@ -62,6 +66,11 @@ added_within room records e =
 abbrev pub run_of : Option Record → Option (ℕ × ℕ)
 run_of (Some (record_of.Hart hart count)) = Some (hart, count)
 run_of _ = None
+
+-- an entry joins a last record of its hart
+abbrev pub joins_last : Option Record → Entry → Bool
+joins_last (Some (record_of.Hart last count)) (entry.Hart hart) = hart == last
+joins_last _ e = false
 
 -- a last record of a hart can count one event more
 abbrev pub CanCount : Option Record → Type 0

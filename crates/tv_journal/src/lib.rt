@@ -8,7 +8,7 @@ ghost use Rattle.tv_journal.specs.declared.Entry.{Entry};
 ghost use Rattle.tv_journal.specs.Entries.{record_count, records_of};
 ghost use Rattle.tv_journal.specs.Grammar.{cause_byte, SpellsJournal, IsLongestFront};
 ghost use Rattle.tv_journal.specs.Writing.{IsSaved};
-ghost use Rattle.tv_journal.specs.Journals.{pushed, next_record, IsEntry, MayFollow};
+ghost use Rattle.tv_journal.specs.Journals.{has_room, pushed, next_record, IsEntry, MayFollow};
 
 mod field;
 mod reader;
@@ -16,7 +16,7 @@ mod record;
 mod writer;
 
 use reader::{Reader, StepFault};
-use record::{EndLine, Record, add, record_at};
+use record::{EndLine, Record, add, needs_no_record, record_at};
 use std::alloc::Global;
 use std::marker::Model;
 use tv_base::{HartNo, Memory, Why};
@@ -121,6 +121,16 @@ impl Journal {
         }
         self.events += 1;
         true
+    }
+
+    /// Whether there is room for the records that the journal has with this entry added.
+    #[inline(always)]
+    pub fn has_room(&self, entry: &Entry) -> bool
+        requires few { length self.now.entries < 2 ^ 32 - 1 }
+        requires entry { IsEntry entry.now }
+        ensures { result ≡ has_room self.now entry.now }
+    {
+        needs_no_record(&self.records, *entry) || self.records.len() < self.record_room as usize
     }
 
     /// Sets the end that no event made, after the entries that are there. It needs no room.

@@ -2,7 +2,7 @@
 
 ghost use Rattle.std.specs.Prelude.{◌≡◌, ◌≤◌, ◌<◌, OnSome, length, slice_get, vec_capacity};
 ghost use Rattle.tv_journal.specs.Grammar.{last_record};
-ghost use Rattle.tv_journal.specs.Journals.{added_within, pushed_within, run_of, entry_and_count, CanCount, FitsEntry};
+ghost use Rattle.tv_journal.specs.Journals.{added_within, pushed_within, run_of, joins_last, entry_and_count, CanCount, FitsEntry};
 
 use crate::Entry;
 use tv_base::{HartNo, Why};
@@ -96,6 +96,24 @@ fn last_run(records: &[Record]) -> Option<(HartNo, u32)>
     match records.last() {
         Some(Record::Hart(hart, count)) => Some((*hart, *count)),
         Some(Record::Tick(_)) | None => None,
+    }
+}
+
+/// Whether an entry joins the last record.
+#[inline(always)]
+pub fn needs_no_record(records: &[Record], entry: Entry) -> bool
+    ensures joins { result ≡ joins_last (last_record records.now) entry }
+    ensures fits { FitsEntry entry }
+{
+    match entry {
+        Entry::Hart(hart) => {
+            let number = hart.get();
+            match last_run(records) {
+                Some((last, _)) => number == last.get(),
+                None => false,
+            }
+        }
+        Entry::Tick(_) => false,
     }
 }
 

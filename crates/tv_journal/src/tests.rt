@@ -28,7 +28,7 @@ struct Bytes {
 impl Sink for Bytes {
     ghost use Rattle.std.specs.Prelude.{None};
 
-    ghost told = { λ sink. record { bytes = None; faults = sink.faults } };
+    ghost told = { λ sink. record { bytes = None; faults = sink.faults; script = None } };
 
     fn faults(&self) -> u64 {
         self.faults
@@ -48,14 +48,22 @@ fn add_event(rt: &impl Abort, journal: &mut Journal, hart: u8) -> bool {
     let hart = HartNo::new(hart).expect(rt, "a hart");
     assert!(rt; journal.events() < 1000);
     assert!(rt; journal.outer().is_none());
-    journal.push(&Entry::Hart(hart))
+    let entry = Entry::Hart(hart);
+    let room = journal.has_room(&entry);
+    let added = journal.push(&entry);
+    assert_eq!(rt; room, added);
+    added
 }
 
 /// Adds a tick.
 fn add_tick(rt: &impl Abort, journal: &mut Journal, n: u32) -> bool {
     assert!(rt; n > 0);
     assert!(rt; journal.events() < 1000);
-    journal.push(&Entry::Tick(n))
+    let entry = Entry::Tick(n);
+    let room = journal.has_room(&entry);
+    let added = journal.push(&entry);
+    assert_eq!(rt; room, added);
+    added
 }
 
 /// Compares a journal's file.

@@ -1,9 +1,8 @@
 use Rattle.std.proofs.Common.{◌≡◌, ℕ, List, Option, Some, None}
 use Rattle.std.specs.Option.{MatchOption, IfSome, IfNone}
-use Rattle.std.specs.List.{position_from}
 use Rattle.tv_out.specs.Shelf.{first_named}
 use Rattle.tv_fake.specs.declared.shelf.Named.{Named}
-use Rattle.tv_fake.specs.Shelf.{objects, is_named, IsFirstAt}
+use Rattle.tv_fake.specs.Shelf.{objects, IsFirstAt}
 use Rattle.tv_fake.proofs.Places.{IsFound, places, found_at}
 use Rattle.tv_fake.proofs.shelf.position_of.Goals as goal
 

@@ -1,4 +1,4 @@
-use Rattle.std.proofs.Common.{rules, ℕ, List, ◌<◌, length, inr, refl, ap, sym, ◌∙◌, Vec}
+use Rattle.std.proofs.Common.{rules, inr, ap, sym, ◌∙◌}
 use Rattle.tv_out.specs.Calls.{next_count}
 use Rattle.tv_fake.proofs.Views.{given, not_due, due}
 use Rattle.tv_fake.proofs.store.MemoryStoreStore.load.Goals as goal
