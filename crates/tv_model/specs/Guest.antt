@@ -2,6 +2,7 @@
 use Rattle.std.specs.Prelude.{◌≡◌, ℕ, ◌+◌, ◌<◌, ◌≤◌, List, length, Option, Some, None, Bool, true, false, EachIndex}
 use Rattle.std.specs.List.{slice_index_or, AllByRecursion}
 use Rattle.tv_base.specs.declared.Why.{Why}
+use Rattle.tv_hart.specs.declared.Did.TheVariants as did
 use Rattle.tv_hart.specs.Hart.{first_hart}
 use Rattle.tv_hart.specs.HartState.{HartState}
 use Rattle.tv_journal.specs.declared.Entry.{Entry}
@@ -58,6 +59,11 @@ pub record IsGuest (harts : List HartState) (seen : Shown) (now : Mode) (events 
   pub ready : AllByRecursion IsReady harts
   pub quiet : seen ≡ shown.Nothing
   pub within : now ≡ mode.Running → events < steps
+
+-- where a hart of the machine makes no event in a run that goes on, its next instruction is not built
+abbrev pub IsUnbuilt : GuestState → ℕ → Type 0
+IsUnbuilt guest hart =
+    hart < guest.setup.harts → guest.mode ≡ mode.Running → (event_of (state_of guest) hart).0 ≡ did.Unbuilt
 
 -- as the run of a machine with an image begins
 pub record IsFirst (guest : GuestState) (machine : Machine) (image : List ℕ) : Type 0 where

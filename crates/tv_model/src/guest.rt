@@ -1,11 +1,11 @@
 //! A guest's machine: harts, memory and time, which move by the entries of a journal.
 
-ghost use Rattle.std.specs.Prelude.{◌≡◌, ◌≢◌, ◌≤◌, ◌↔◌, IsTrue, None, IfOk, length};
+ghost use Rattle.std.specs.Prelude.{◌≡◌, ◌≢◌, ◌<◌, ◌≤◌, ◌↔◌, IsTrue, None, IfOk, IfNone, length};
 ghost use Rattle.tv_machine_file.specs.Valid.{IsValid};
 ghost use Rattle.tv_journal.specs.Grammar.{cause_byte};
 ghost use Rattle.tv_journal.specs.declared.Entry.TheVariants as entry;
 ghost use Rattle.tv_spec.specs.Step.{made, ended, mode_by, end_at, end_shown};
-ghost use Rattle.tv_model.specs.Guest.{IsAnswered, IsStepped, IsFirst, AreFirst};
+ghost use Rattle.tv_model.specs.Guest.{IsAnswered, IsStepped, IsUnbuilt, IsFirst, AreFirst, state_of};
 
 use crate::local::Local;
 use std::alloc::Global;
@@ -69,18 +69,38 @@ impl Guest {
         })
     }
 
-    /// Whether the run goes on.
+    /// Whether the run goes on. It does so below its limit of events alone.
     pub fn mode(&self) -> Mode
-        ensures { result ≡ self.now.mode }
+        ensures mode { result ≡ self.now.mode }
+        ensures within { result ≡ Mode.Running → self.now.events < self.now.setup.steps }
     {
         self.mode
+    }
+
+    /// How many harts there are.
+    pub fn harts(&self) -> u8
+        ensures count { result ≡ self.now.setup.harts }
+        ensures few { result ≤ 8 }
+    {
+        self.harts.len() as u8
+    }
+
+    /// The address of a hart's next instruction; 0 for a hart that the machine lacks.
+    pub fn pc(&self, hart: HartNo) -> u64
+        ensures { hart < self.now.setup.harts → result ≡ ((state_of self.now).harts hart).pc }
+    {
+        match self.harts.get(usize::from(hart.get())) {
+            Some(hart) => hart.pc(),
+            None => 0,
+        }
     }
 
     /// An event of a hart, and what it showed outside memory; `None` exactly where no event of it may stand, and nothing
     /// is changed then.
     #[inline(always)]
     pub fn hart_event(&mut self, hart: HartNo) -> Option<Shown>
-        ensures { IsStepped self.old self.new hart result }
+        ensures stepped { IsStepped self.old self.new hart result }
+        ensures unbuilt { IfNone result (IsUnbuilt self.old hart) }
     {
         let number = usize::from(hart.get());
         if number >= self.harts.len() || !is_running(self.mode) {

@@ -25,3 +25,14 @@ pub enum Shown {
     /// A store to the finisher that ends the run.
     Finish(Finish),
 }
+
+/// Why a run on one thread stopped.
+#[derive(Clone, Copy)]
+pub enum Stop {
+    /// An event ended it, for this cause.
+    Ended(Why),
+    /// An entry found no room in the journal.
+    Full,
+    /// The next event of a hart is not built yet; the hart's pc.
+    Unbuilt(u64),
+}

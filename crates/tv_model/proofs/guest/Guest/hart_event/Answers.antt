@@ -22,8 +22,8 @@ invariant_of-self-2 c =
     (guest-event c.self.inside.harts.items c.self.inside.events c.self.inside.steps c.from-number.result c.step.new.self c.take_shown-shown.new.self.shown (end_shown c.take_shown-shown.result)
     c.self.invariant.few c.self.invariant.ready (c.self.invariant.within running) c.in-Retired.ensures.waits (ap (λ (l : LocalState). l.shown) c.take_shown-shown.ensures.taken))
 
-pub returns : goal.returns
-returns c =
+pub returns-clause-stepped : goal.returns-clause-stepped
+returns-clause-stepped c =
     rw (← c.self.view_is)
     (made_by c.self.inside.harts.items c.self.inside.local c.step.new.place c.take_shown-shown.new.self c.self.inside.time c.self.inside.mode c.mode_after-self-inside.result c.self.inside.events
     c.self.inside.ticked c.self.inside.steps c.args.hart c.from-number.result c.index_mut.result.now c.step.new.self c.step.result c.take_shown-shown.result
