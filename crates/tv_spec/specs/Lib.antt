@@ -2,6 +2,7 @@ pub mod Legal
 pub mod Local
 pub mod LocalState
 pub mod Setup
+pub mod SoFar
 pub mod Solo
 pub mod Shows
 pub mod State

@@ -1,0 +1,115 @@
+-- The parts of the schedule one after another.
+use Rattle.std.proofs.Common.{◌≡◌, ℕ, suc, List, Option, Some, None, refl, ap, sym, ◌∙◌}
+use Rattle.tv_journal.specs.Journals.{JournalState}
+use Rattle.tv_spec.specs.declared.Mode.TheVariants as mode
+use Rattle.tv_spec.specs.declared.Stop.{Stop}
+use Rattle.tv_spec.specs.declared.Stop.TheVariants as stop
+use Rattle.tv_spec.specs.SoFar.{IsSoFar}
+use Rattle.tv_spec.specs.Setup.{Setup}
+use Rattle.tv_spec.specs.Solo.{Solo, Going, onward, solo_event, turn, turns}
+use Rattle.tv_spec.specs.State.{State}
+use Rattle.std.proofs.lemmas.Bool.{false≢true}
+use Rattle.tv_runner.specs.Parts.{Held, solo_at, IsPart}
+use Rattle.tv_runner.proofs.Events.{is_full}
+
+-- parts were carried out, the run goes on, and the rest makes of it what the whole makes
+pub record IsOn (whole rest : Solo → Going) (old now : Held) : Type 0 where
+  pub leads : (before : List ℕ) → ◌≡◌ {A = Going} (rest (solo_at now before)) (whole (solo_at old before))
+  pub so_far : (first : State) (before : List ℕ) → IsSoFar old.guest.setup first (solo_at old before) → IsSoFar old.guest.setup first (solo_at now before)
+  pub setup : now.guest.setup ≡ old.guest.setup
+  pub room : now.journal.record_room ≡ old.journal.record_room
+  pub outer : now.journal.outer ≡ old.journal.outer
+  pub runs : now.guest.mode ≡ mode.Running
+
+pub on-start : (whole rest : Solo → Going) (old : Held) → ((solo : Solo) → rest solo ≡ whole solo) → old.guest.mode ≡ mode.Running → IsOn whole rest old old
+on-start whole rest old same runs = record {
+  leads = λ before. same (solo_at old before);
+  so_far = λ first before is. is;
+  setup = refl;
+  room = refl;
+  outer = refl;
+  runs = runs;
+}
+
+pub on-part : (whole rest next part : Solo → Going) (old now new : Held) → IsOn whole rest old now → ((solo : Solo) → rest solo ≡ onward next (part solo)) → IsPart part now new None → IsOn whole next old new
+on-part whole rest next part old now new on split is = record {
+  leads = λ before. ap (onward next) (is.made before) ∙ sym (split (solo_at now before)) ∙ on.leads before;
+  so_far = λ first before so_far. rw (sym on.setup) (is.so_far first before (rw on.setup (on.so_far first before so_far)));
+  setup = is.setup ∙ on.setup;
+  room = is.room ∙ on.room;
+  outer = is.outer ∙ on.outer;
+  runs = is.runs;
+}
+
+pub on-stop : (whole rest next part : Solo → Going) (old now new : Held) (stopped : Stop) → IsOn whole rest old now → ((solo : Solo) → rest solo ≡ onward next (part solo)) → IsPart part now new (Some stopped) → IsPart whole old new (Some stopped)
+on-stop whole rest next part old now new stopped on split is = record {
+  made = λ before. ap (onward next) (is.made before) ∙ sym (split (solo_at now before)) ∙ on.leads before;
+  so_far = λ first before so_far. rw (sym on.setup) (is.so_far first before (rw on.setup (on.so_far first before so_far)));
+  setup = is.setup ∙ on.setup;
+  room = is.room ∙ on.room;
+  outer = is.outer ∙ on.outer;
+  runs = tt;
+  full = is.full;
+}
+
+pub on-end : (whole rest : Solo → Going) (old now : Held) → IsOn whole rest old now → ((solo : Solo) → rest solo ≡ (solo, None)) → IsPart whole old now None
+on-end whole rest old now on over = record {
+  made = λ before. sym (over (solo_at now before)) ∙ on.leads before;
+  so_far = on.so_far;
+  setup = on.setup;
+  room = on.room;
+  outer = on.outer;
+  runs = on.runs;
+  full = λ is. absurd (false≢true (ap is_full is));
+}
+
+-- a turn with an event left
+pub turn-split : (old now : Setup) (old_room room hart left after : ℕ) (solo : Solo) → now ≡ old → room ≡ old_room → left ≡ suc after
+    → turn old old_room hart left solo ≡ onward (turn old old_room hart after) (solo_event now room hart solo)
+unfolding turn
+turn-split old now old_room room hart left after solo setup_is room_is left_is = rw (setup_is, room_is, left_is) refl
+
+pub turn-over : (setup : Setup) (room hart left : ℕ) (solo : Solo) → left ≡ 0 → turn setup room hart left solo ≡ (solo, None)
+unfolding turn
+turn-over setup room hart left solo over = rw over refl
+
+-- turns with one left
+pub turns-split : (old now : Setup) (old_room room number next hart left after : ℕ) (solo : Solo) → now ≡ old → room ≡ old_room → left ≡ suc after → hart ≡ number → next ≡ suc number
+    → turns old old_room number left solo ≡ onward (turns old old_room next after) (turn now room hart 64 solo)
+unfolding turns
+turns-split old now old_room room number next hart left after solo setup_is room_is left_is hart_is next_is = rw (setup_is, room_is, left_is, hart_is, next_is) refl
+
+pub turns-over : (setup : Setup) (room hart left : ℕ) (solo : Solo) → left ≡ 0 → turns setup room hart left solo ≡ (solo, None)
+unfolding turns
+turns-over setup room hart left solo over = rw over refl
+
+-- two parts one after another
+pub part-twice : (first : Solo → Going) (second : Setup → ℕ → Solo → Going) (old now new : Held) (result : Option Stop) → IsPart first old now None
+    → IsPart (second now.guest.setup now.journal.record_room) now new result
+    → IsPart (λ solo. onward (second old.guest.setup old.journal.record_room) (first solo)) old new result
+part-twice first second old now new result one two = record {
+  made = λ before.
+      two.made before
+      ∙ ap (λ (setup : Setup). second setup now.journal.record_room (solo_at now before)) one.setup
+      ∙ ap (λ (room : ℕ). second old.guest.setup room (solo_at now before)) one.room
+      ∙ ap (onward (second old.guest.setup old.journal.record_room)) (one.made before);
+  so_far = λ start before so_far. rw (sym one.setup) (two.so_far start before (rw one.setup (one.so_far start before so_far)));
+  setup = two.setup ∙ one.setup;
+  room = two.room ∙ one.room;
+  outer = two.outer ∙ one.outer;
+  runs = two.runs;
+  full = two.full;
+}
+
+-- and one that stopped before the other
+pub part-alone : (first second : Solo → Going) (old new : Held) (stopped : Stop) → IsPart first old new (Some stopped)
+    → IsPart (λ solo. onward second (first solo)) old new (Some stopped)
+part-alone first second old new stopped one = record {
+  made = λ before. ap (onward second) (one.made before);
+  so_far = one.so_far;
+  setup = one.setup;
+  room = one.room;
+  outer = one.outer;
+  runs = tt;
+  full = one.full;
+}

@@ -1,0 +1,46 @@
+-- The engine of runs on one thread, part by part: what it holds is a run so far, and each part is that of the schedule.
+use Rattle.std.specs.Prelude.{◌≡◌, ℕ, ◌+◌, ◌*◌, ◌<◌, ◌≤◌, false, ◌++◌, List, length, Option, Some, None, IfNone}
+use Rattle.tv_journal.specs.Journals.{JournalState}
+use Rattle.tv_model.specs.Guest.{state_of}
+use Rattle.tv_model.specs.GuestState.{GuestState}
+use Rattle.tv_spec.specs.declared.Mode.TheVariants as mode
+use Rattle.tv_spec.specs.declared.Stop.{Stop}
+use Rattle.tv_spec.specs.declared.Stop.TheVariants as stop
+use Rattle.tv_spec.specs.SoFar.{IsSoFar}
+use Rattle.tv_spec.specs.Solo.{Solo, Going}
+use Rattle.tv_spec.specs.State.{State}
+
+-- what the engine holds: the machine, the journal, and the bytes of the round
+pub record Held : Type 0 where
+  pub guest : GuestState
+  pub journal : JournalState
+  pub bytes : List ℕ
+
+-- the run so far that it is, with the bytes of the rounds before
+abbrev pub solo_at : Held → List ℕ → Solo
+solo_at held before = record { state = state_of held.guest; entries = held.journal.entries; bytes = before ++ held.bytes }
+
+-- a part of the schedule was carried out, and it came to this: whatever was put before
+pub record IsPart (part : Solo → Going) (old new : Held) (result : Option Stop) : Type 0 where
+  pub made : (before : List ℕ) → ◌≡◌ {A = Going} (solo_at new before, result) (part (solo_at old before))
+  pub so_far : (first : State) (before : List ℕ) → IsSoFar old.guest.setup first (solo_at old before) → IsSoFar old.guest.setup first (solo_at new before)
+  pub setup : new.guest.setup ≡ old.guest.setup
+  pub room : new.journal.record_room ≡ old.journal.record_room
+  pub outer : new.journal.outer ≡ old.journal.outer
+  pub runs : IfNone result (new.guest.mode ≡ mode.Running)
+  pub full : result ≡ Some stop.Full → new.guest.mode ≡ mode.Running
+
+-- it made at most so many events, and no more entries and bytes than events; where the run goes on, it made just so many,
+-- and if it made any, the last entry is no tick
+pub record IsWithin (most : ℕ) (old new : Held) (result : Option Stop) : Type 0 where
+  pub entries : length new.journal.entries + old.guest.events ≤ length old.journal.entries + new.guest.events
+  pub bytes : length new.bytes + old.guest.events ≤ length old.bytes + new.guest.events
+  pub events : new.guest.events ≤ old.guest.events + most
+  pub all : IfNone result (new.guest.events ≡ old.guest.events + most)
+  pub unticked : IfNone result (0 < most → new.guest.ticked ≡ false)
+
+-- a round made at most an entry more than events; where the run goes on, it made some
+pub record IsRoundWithin (old new : GuestState) (journal kept : JournalState) (result : Option Stop) : Type 0 where
+  pub entries : length kept.entries + old.events ≤ length journal.entries + new.events + 1
+  pub events : new.events ≤ old.events + old.setup.harts * 64
+  pub some : IfNone result (old.events + 64 ≤ new.events)

@@ -1,0 +1,4 @@
+//! Runs on one thread: the engine that carries out the schedule of rounds and keeps the journal.
+#![tactic(auto)]
+
+mod parts;
