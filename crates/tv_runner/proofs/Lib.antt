@@ -1,2 +1,4 @@
 pub mod Events
 pub mod On
+pub mod Pieces
+pub mod Rounds

@@ -1,5 +1,5 @@
 -- The parts of the schedule one after another.
-use Rattle.std.proofs.Common.{◌≡◌, ℕ, suc, List, Option, Some, None, refl, ap, sym, ◌∙◌}
+use Rattle.std.proofs.Common.{◌≡◌, ◌<◌, ℕ, suc, List, Option, Some, None, refl, ap, sym, ◌∙◌}
 use Rattle.tv_journal.specs.Journals.{JournalState}
 use Rattle.tv_spec.specs.declared.Mode.TheVariants as mode
 use Rattle.tv_spec.specs.declared.Stop.{Stop}
@@ -113,3 +113,7 @@ part-alone first second old new stopped one = record {
   runs = tt;
   full = one.full;
 }
+
+-- below the limit before and after
+pub limit-on : (old now : Setup) (first here there : ℕ) → now ≡ old → (first < old.steps → here < old.steps) → (here < now.steps → there < now.steps) → first < old.steps → there < old.steps
+limit-on old now first here there same one two below = rw same at (two (rw same (one below)))

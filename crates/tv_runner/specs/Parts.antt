@@ -38,9 +38,11 @@ pub record IsWithin (most : ℕ) (old new : Held) (result : Option Stop) : Type 
   pub events : new.guest.events ≤ old.guest.events + most
   pub all : IfNone result (new.guest.events ≡ old.guest.events + most)
   pub unticked : IfNone result (0 < most → new.guest.ticked ≡ false)
+  pub limit : IfNone result (old.guest.events < old.guest.setup.steps → new.guest.events < old.guest.setup.steps)
 
 -- a round made at most an entry more than events; where the run goes on, it made some
 pub record IsRoundWithin (old new : GuestState) (journal kept : JournalState) (result : Option Stop) : Type 0 where
   pub entries : length kept.entries + old.events ≤ length journal.entries + new.events + 1
   pub events : new.events ≤ old.events + old.setup.harts * 64
   pub some : IfNone result (old.events + 64 ≤ new.events)
+  pub limit : IfNone result (old.events < old.setup.steps → new.events < old.setup.steps)

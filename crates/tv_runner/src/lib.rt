@@ -2,3 +2,7 @@
 #![tactic(auto)]
 
 mod parts;
+mod output;
+mod solo;
+
+pub use solo::Ran;

@@ -1,7 +1,7 @@
 use Rattle.std.proofs.Common.{ℕ, ◌-◌, ◌+◌, arith}
 use Rattle.tv_spec.specs.Solo.{Solo, solo_event, turn}
 use Rattle.tv_runner.specs.Parts.{Held}
-use Rattle.tv_runner.proofs.On.{on-part, on-stop, on-end, turn-split, turn-over}
+use Rattle.tv_runner.proofs.On.{limit-on, on-part, on-stop, on-end, turn-split, turn-over}
 use Rattle.tv_runner.proofs.parts.turn.Goals as goal
 
 pub returns-in-Some-clause-part : goal.returns-in-Some-clause-part
@@ -33,6 +33,7 @@ loop-made-preserved c =
         bytes = omega (arith, c.loop-made.invariant.within.bytes, c.in-None.ensures.within.bytes);
         events = omega (arith, c.loop-made.invariant.within.events, c.in-None.ensures.within.events);
         all = omega (arith, c.loop-made.invariant.within.all, c.in-None.ensures.within.all);
+        limit = limit-on old.guest.setup now.guest.setup old.guest.events now.guest.events new.guest.events c.loop-made.invariant.on.setup c.loop-made.invariant.within.limit c.in-None.ensures.within.limit;
         unticked = λ some. c.in-None.ensures.within.unticked (omega arith);
       };
     }

@@ -1,7 +1,7 @@
 use Rattle.std.proofs.Common.{ℕ, ◌-◌, ◌+◌, arith}
 use Rattle.tv_spec.specs.Solo.{Solo, turn, turns}
 use Rattle.tv_runner.specs.Parts.{Held}
-use Rattle.tv_runner.proofs.On.{on-part, on-stop, on-end, turns-split, turns-over}
+use Rattle.tv_runner.proofs.On.{limit-on, on-part, on-stop, on-end, turns-split, turns-over}
 use Rattle.tv_runner.proofs.parts.turns.Goals as goal
 
 pub returns-in-Some-turn-clause-part : goal.returns-in-Some-turn-clause-part
@@ -35,6 +35,7 @@ loop-number-preserved c =
         bytes = omega (arith, c.loop-number.invariant.within.bytes, c.in-None.ensures.within.bytes);
         events = omega (arith, c.loop-number.invariant.within.events, c.in-None.ensures.within.events);
         all = omega (arith, c.loop-number.invariant.within.all, c.in-None.ensures.within.all);
+        limit = limit-on old.guest.setup now.guest.setup old.guest.events now.guest.events new.guest.events c.loop-number.invariant.on.setup c.loop-number.invariant.within.limit c.in-None.ensures.within.limit;
         unticked = λ some. c.in-None.ensures.within.unticked (omega arith);
       };
     }

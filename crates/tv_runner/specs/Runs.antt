@@ -1,0 +1,62 @@
+-- A run of the engine, and what it came to.
+use Rattle.std.specs.Prelude.{◌≡◌, ℕ, suc, ◌≤◌, ◌++◌, List, [], length, Option, Some, None, IfNone, Bool, true, false, map}
+use Rattle.tv_base.specs.declared.Why.{Why}
+use Rattle.tv_base.specs.declared.Why.TheVariants as why
+use Rattle.tv_journal.specs.declared.Entry.{Entry}
+use Rattle.tv_journal.specs.Journals.{JournalState}
+use Rattle.tv_machine_file.specs.declared.machine.Machine.{Machine}
+use Rattle.tv_model.specs.GuestState.{GuestState}
+use Rattle.tv_out.specs.Faults.{Rose}
+use Rattle.tv_out.specs.Told.{ToldSink, appended, IsCut}
+use Rattle.tv_spec.specs.declared.Stop.{Stop}
+use Rattle.tv_spec.specs.Legal.{IsLegalRun}
+use Rattle.tv_spec.specs.Setup.{setup_of}
+use Rattle.tv_spec.specs.Shows.{debug_bytes}
+use Rattle.tv_spec.specs.Solo.{Solo, Going, rounds, solo_rounds, solo_run, outer_of_stop}
+use Rattle.tv_spec.specs.State.{first_state}
+use Rattle.tv_spec.specs.Step.{made}
+use Rattle.tv_runner.specs.declared.solo.Ran.{Ran}
+use Rattle.tv_runner.specs.Parts.{Held, IsPart}
+
+-- bytes of the last of some rounds went lost: those of the rounds before went out, and a front of its own
+pub record IsLostIn (before bytes : List ℕ) (old new : ToldSink) : Type 0 where
+  pub last : List ℕ
+  pub parts : bytes ≡ before ++ last
+  pub cut : IsCut last (appended old.bytes before) new.bytes
+  pub fault : Rose old.faults new.faults
+
+-- all bytes went out, or some of the last round went lost
+abbrev pub IsPut : Bool → List ℕ → List ℕ → ToldSink → ToldSink → Type 0
+IsPut true before bytes old new = IsLostIn before bytes old new
+IsPut false before bytes old new = new.bytes ≡ appended old.bytes bytes
+
+-- so many rounds and one more were carried out, with these bytes before the last one
+pub record AreRounds (old new : Held) (stop : Option Stop) (lost : Bool) (told now : ToldSink) : Type 0 where
+  pub earlier : ℕ
+  pub middle : Held
+  pub bytes : List ℕ
+  pub before : IsPart (rounds old.guest.setup old.journal.record_room earlier) old middle None
+  pub part : IsPart (rounds old.guest.setup old.journal.record_room (suc earlier)) old (record new { bytes = bytes }) stop
+  pub few : suc earlier ≤ old.guest.setup.steps
+  pub stopped : IfNone stop (lost ≡ true)
+  pub put : IsPut lost middle.bytes bytes told now
+
+-- the outer end: that of the stop, or that bytes went lost in a run that had not stopped
+abbrev pub outer_by : List Entry → Option Stop → Option (ℕ × Why)
+outer_by entries None = Some (length entries, why.DebugLost)
+outer_by entries (Some stopped) = outer_of_stop entries stopped
+
+-- a run of a machine with an image: so many rounds of the schedule, which is all of it where no byte went lost
+pub record IsRun (machine : Machine) (image : List ℕ) (ran : Ran) (old new : ToldSink) : Type 0 where
+  pub earlier : ℕ
+  pub middle : Solo
+  pub solo : Solo
+  pub before : ◌≡◌ {A = Going} (solo_rounds machine image earlier) (middle, None)
+  pub rounds : ◌≡◌ {A = Going} (solo_rounds machine image (suc earlier)) (solo, ran.stop)
+  pub whole : ran.lost ≡ false → ◌≡◌ {A = Going} (solo_run machine image) (solo, ran.stop)
+  pub stopped : IfNone ran.stop (ran.lost ≡ true)
+  pub entries : ran.journal.entries ≡ solo.entries
+  pub outer : ran.journal.outer ≡ outer_by solo.entries ran.stop
+  pub legal : IsLegalRun machine image ran.journal.entries ran.journal.outer
+  pub bytes : solo.bytes ≡ debug_bytes (setup_of machine) (first_state machine image) (map made solo.entries)
+  pub put : IsPut ran.lost middle.bytes solo.bytes old new
