@@ -2,3 +2,4 @@ pub mod Events
 pub mod On
 pub mod Pieces
 pub mod Rounds
+pub mod Ends

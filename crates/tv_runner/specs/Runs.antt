@@ -15,7 +15,7 @@ use Rattle.tv_spec.specs.Shows.{debug_bytes}
 use Rattle.tv_spec.specs.Solo.{Solo, Going, rounds, solo_rounds, solo_run, outer_of_stop}
 use Rattle.tv_spec.specs.State.{first_state}
 use Rattle.tv_spec.specs.Step.{made}
-use Rattle.tv_runner.specs.declared.solo.Ran.{Ran}
+use Rattle.tv_runner.specs.declared.run.Ran.{Ran}
 use Rattle.tv_runner.specs.Parts.{Held, IsPart}
 
 -- bytes of the last of some rounds went lost: those of the rounds before went out, and a front of its own

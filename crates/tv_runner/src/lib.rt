@@ -3,6 +3,6 @@
 
 mod parts;
 mod output;
-mod solo;
+mod run;
 
-pub use solo::Ran;
+pub use run::{Ran, solo};

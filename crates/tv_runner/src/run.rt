@@ -49,3 +49,39 @@ fn rounds<O: Sink>(guest: &mut Guest, journal: &mut Journal, out: &mut O) -> (Op
         }
     }
 }
+
+/// A run of a machine with an image of up to `ram` bytes, on one thread: rounds of up to 64 events of each hart and a
+/// tick, and the bytes at the debug port put after each round. The answer has the run's journal, and why it stopped; that
+/// an event ended it, the journal is full, or an instruction isn't built yet. It stops after at most `steps` events.
+///
+/// # Errors
+/// Want of memory. Nothing was put then.
+pub fn solo<O: Sink>(alloc: Global, machine: &Machine, image: &[u8], out: &mut O) -> Result<Ran, Memory>
+    requires valid { IsValid machine.now }
+    requires fits { length image.now ≤ machine.now.ram }
+    ensures ran { IfOk result (λ ran. IsRun machine.now image.now ran (O.told out.old) (O.told out.new)) }
+    ensures unchanged { OnErr result (O.told out.new ≡ O.told out.old) }
+    ensures later { (O.told out.old).faults ≤ (O.told out.new).faults }
+{
+    let mut guest = Guest::new(alloc, machine, image)?;
+    let mut journal = Journal::new(alloc, machine.journal_entries, machine.journal_bytes)?;
+    let ended = rounds(&mut guest, &mut journal, out);
+    close(&mut journal, ended.0);
+    Ok(Ran {
+        journal,
+        stop: ended.0,
+        lost: ended.1,
+    })
+}
+
+/// Keeps the end of a run that no entry made, if it has one.
+fn close(journal: &mut Journal, stop: Option<Stop>)
+    requires { journal.old.outer ≡ None }
+    ensures { journal.new ≡ record journal.old { outer = outer_by journal.old.entries stop } }
+{
+    match stop {
+        None => journal.end(Why::DebugLost),
+        Some(Stop::Full) => journal.end(Why::Full),
+        Some(Stop::Ended(_) | Stop::Unbuilt(_)) => {}
+    }
+}

@@ -3,8 +3,8 @@ use Rattle.tv_out.specs.Told.{appended}
 use Rattle.tv_spec.specs.Solo.{round}
 use Rattle.tv_runner.specs.Parts.{IsPart, IsRoundWithin}
 use Rattle.tv_runner.proofs.Rounds.{at-on, at-end, at-start, some-stopped, lost-stopped, went-on, went-out}
-use Rattle.tv_runner.proofs.solo.rounds.Goals as goal
-use Rattle.tv_runner.proofs.solo.rounds.Goals.{then-lost-via-then-lost, then-lost-via-else-lost+then-is_some}
+use Rattle.tv_runner.proofs.run.rounds.Goals as goal
+use Rattle.tv_runner.proofs.run.rounds.Goals.{then-lost-via-then-lost, then-lost-via-else-lost+then-is_some}
 
 pub loop-stop-init : goal.loop-stop-init
 loop-stop-init g c =

@@ -1,6 +1,6 @@
 use Rattle.std.specs.Prelude.{◌-◌, []}
 use Rattle.tv_runner.proofs.Rounds.{IsAt}
-use Rattle.tv_runner.proofs.solo.rounds.Given as goal
+use Rattle.tv_runner.proofs.run.rounds.Given as goal
 
 -- the rounds so far went on
 abbrev pub invariant-loop-stop : goal.invariant-loop-stop

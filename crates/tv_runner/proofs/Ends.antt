@@ -1,0 +1,104 @@
+-- From rounds to the run of a machine with an image.
+use Rattle.std.proofs.Common.{◌≡◌, ◌≢◌, ℕ, suc, ◌≤◌, List, [], ◌∷◌, ◌++◌, length, take, drop, map, Option, Some, None, Bool, true, false, refl, ap, sym, ◌∙◌, subst, arith}
+use Rattle.std.proofs.Math.Seq.{take-length, drop-length}
+use Rattle.std.specs.Prelude.{IfNone}
+use Rattle.std.specs.Option.{is_some}
+use Rattle.std.proofs.lemmas.Bool.{false≢true}
+use Rattle.tv_base.specs.declared.Why.{Why}
+use Rattle.tv_base.specs.declared.Why.TheVariants as why
+use Rattle.tv_journal.specs.declared.Entry.{Entry}
+use Rattle.tv_journal.specs.Grammar.{cause_byte}
+use Rattle.tv_journal.specs.Journals.{JournalState}
+use Rattle.tv_machine_file.specs.declared.machine.Machine.{Machine}
+use Rattle.tv_model.specs.Guest.{state_of, IsFirst}
+use Rattle.tv_model.specs.GuestState.{GuestState}
+use Rattle.tv_out.specs.Told.{ToldSink}
+use Rattle.tv_spec.specs.declared.Mode.TheVariants as mode
+use Rattle.tv_spec.specs.declared.Stop.{Stop}
+use Rattle.tv_spec.specs.declared.Stop.TheVariants as stop
+use Rattle.tv_spec.specs.Legal.{after, IsLegal, IsLegalRun, with_outer}
+use Rattle.tv_spec.specs.Setup.{Setup, setup_of}
+use Rattle.tv_spec.specs.SoFar.{IsSoFar}
+use Rattle.tv_spec.specs.Solo.{Solo, Going, rounds, first_solo, solo_rounds, solo_run}
+use Rattle.tv_spec.specs.State.{State, first_state}
+use Rattle.tv_spec.specs.Step.{Move, made, ended, CanEnd}
+use Rattle.tv_spec.proofs.Moves.{legal-append}
+use Rattle.tv_runner.specs.declared.run.Ran.{Ran}
+use Rattle.tv_runner.specs.Parts.{Held, solo_at, IsPart}
+use Rattle.tv_runner.specs.Runs.{AreRounds, IsRun, outer_by}
+use Rattle.tv_runner.proofs.Rounds.{rounds-stay}
+
+-- the run of a machine with an image begins with a guest as it is made and an empty journal
+pub solo-first : (machine : Machine) (image : List ℕ) (guest : GuestState) (journal : JournalState) → IsFirst guest machine image → journal.entries ≡ []
+    → solo_at (record { guest = guest; journal = journal; bytes = [] }) [] ≡ first_solo machine image
+solo-first machine image guest journal first empty =
+    let state_same : state_of guest ≡ first_state machine image = first.state in
+    λ i. record { state = state_same i; entries = empty i; bytes = [] }
+
+-- rounds from there
+pub rounds-first : (machine : Machine) (image : List ℕ) (guest : GuestState) (journal : JournalState) (n : ℕ) → IsFirst guest machine image → journal.entries ≡ [] → journal.record_room ≡ machine.journal_entries
+    → rounds guest.setup journal.record_room n (solo_at (record { guest = guest; journal = journal; bytes = [] }) []) ≡ solo_rounds machine image n
+rounds-first machine image guest journal n first empty room =
+    let old : Solo = solo_at (record { guest = guest; journal = journal; bytes = [] }) [] in
+    ap (λ (setup : Setup). rounds setup journal.record_room n old) first.setup
+    ∙ ap (λ (room : ℕ). rounds (setup_of machine) room n old) room
+    ∙ ap (rounds (setup_of machine) machine.journal_entries n) (solo-first machine image guest journal first empty)
+
+-- nothing was done yet
+pub so_far-first : (machine : Machine) (image : List ℕ) → IsSoFar (setup_of machine) (first_state machine image) (first_solo machine image)
+so_far-first machine image = record { legal = tt; state_is = refl; bytes_are = refl }
+
+-- all of it where it stopped
+pub run-whole : (machine : Machine) (image : List ℕ) (n : ℕ) (solo : Solo) (stopped : Option Stop) (lost : Bool) → n ≤ machine.steps → ◌≡◌ {A = Going} (solo_rounds machine image n) (solo, stopped)
+    → IfNone stopped (lost ≡ true) → lost ≡ false → ◌≡◌ {A = Going} (solo_run machine image) (solo, stopped)
+run-whole machine image n solo None lost few is lost_is went = absurd (false≢true (sym went ∙ lost_is))
+run-whole machine image n solo (Some stopped) lost few is lost_is went = rounds-stay (setup_of machine) machine.journal_entries n machine.steps (first_solo machine image) solo stopped few is
+
+-- an outer end after all entries
+pub legal-end : (machine : Machine) (image : List ℕ) (solo : Solo) (cause : Why) → IsSoFar (setup_of machine) (first_state machine image) solo → solo.state.mode ≡ mode.Running → cause_byte cause ≢ None
+    → IsLegalRun machine image solo.entries (Some (length solo.entries, cause))
+legal-end machine image solo cause so_far runs outer =
+    let moves : List Move = map made solo.entries in
+    let end : CanEnd (after (setup_of machine) (first_state machine image) moves) cause = record { running = rw (sym so_far.state_is) runs; outer = outer } in
+    record {
+      place = omega arith;
+      legal = rw (take-length solo.entries, drop-length solo.entries) (legal-append (setup_of machine) (first_state machine image) moves (ended cause ∷ []) so_far.legal (end, tt));
+    }
+
+pub legal-run : (machine : Machine) (image : List ℕ) (solo : Solo) (stopped : Option Stop) → IsSoFar (setup_of machine) (first_state machine image) solo
+    → IfNone stopped (solo.state.mode ≡ mode.Running) → (stopped ≡ Some stop.Full → solo.state.mode ≡ mode.Running) → IsLegalRun machine image solo.entries (outer_by solo.entries stopped)
+legal-run machine image solo None so_far runs full = legal-end machine image solo why.DebugLost so_far runs (λ is. false≢true (sym (ap is_some is)))
+legal-run machine image solo (Some stop.Full) so_far runs full = legal-end machine image solo why.Full so_far (full refl) (λ is. false≢true (sym (ap is_some is)))
+legal-run machine image solo (Some (stop.Ended cause)) so_far runs full = record { place = tt; legal = so_far.legal }
+legal-run machine image solo (Some (stop.Unbuilt pc)) so_far runs full = record { place = tt; legal = so_far.legal }
+
+pub run-of : (machine : Machine) (image : List ℕ) (guest later : GuestState) (journal kept closed : JournalState) (stopped : Option Stop) (lost : Bool) (told now : ToldSink)
+    → IsFirst guest machine image → journal.entries ≡ [] → journal.record_room ≡ machine.journal_entries
+    → AreRounds (record { guest = guest; journal = journal; bytes = [] }) (record { guest = later; journal = kept; bytes = [] }) stopped lost told now
+    → closed ≡ record kept { outer = outer_by kept.entries stopped }
+    → IsRun machine image (record { journal = closed; stop = stopped; lost = lost }) told now
+run-of machine image guest later journal kept closed stopped lost told now first empty room are closed_is =
+    let old : Held = record { guest = guest; journal = journal; bytes = [] } in
+    let new : Held = record { guest = later; journal = kept; bytes = are.bytes } in
+    let solo : Solo = solo_at new [] in
+    let rounds_are : ◌≡◌ {A = Going} (solo_rounds machine image (suc are.earlier)) (solo, stopped) =
+        sym (rounds-first machine image guest journal (suc are.earlier) first empty room) ∙ sym (are.part.made []) in
+    let so_far_old : IsSoFar guest.setup (first_state machine image) (solo_at old []) =
+        subst (λ (setup : Setup). IsSoFar setup (first_state machine image) (solo_at old [])) (sym first.setup)
+        (subst (IsSoFar (setup_of machine) (first_state machine image)) (sym (solo-first machine image guest journal first empty)) (so_far-first machine image)) in
+    let so_far : IsSoFar (setup_of machine) (first_state machine image) solo =
+        subst (λ (setup : Setup). IsSoFar setup (first_state machine image) solo) first.setup (are.part.so_far (first_state machine image) [] so_far_old) in
+    record {
+      earlier = are.earlier;
+      middle = solo_at are.middle [];
+      solo = solo;
+      before = sym (rounds-first machine image guest journal are.earlier first empty room) ∙ sym (are.before.made []);
+      rounds = rounds_are;
+      whole = run-whole machine image (suc are.earlier) solo stopped lost (subst (λ (setup : Setup). suc are.earlier ≤ setup.steps) first.setup are.few) rounds_are are.stopped;
+      stopped = are.stopped;
+      entries = ap (λ (j : JournalState). j.entries) closed_is;
+      outer = ap (λ (j : JournalState). j.outer) closed_is;
+      legal = rw closed_is (legal-run machine image solo stopped so_far are.part.runs are.part.full);
+      bytes = so_far.bytes_are;
+      put = are.put;
+    }
