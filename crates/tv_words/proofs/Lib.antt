@@ -1,0 +1,5 @@
+pub mod Adding
+pub mod Lines
+pub mod Readings
+pub mod Walk
+pub mod Words
