@@ -1,12 +1,11 @@
 -- From rounds to the run of a machine with an image.
-use Rattle.std.proofs.Common.{◌≡◌, ◌≢◌, ℕ, suc, ◌≤◌, List, [], ◌∷◌, ◌++◌, length, take, drop, map, Option, Some, None, Bool, true, false, refl, ap, sym, ◌∙◌, subst, arith}
+use Rattle.std.proofs.Common.{◌≡◌, ◌≢◌, ℕ, suc, ◌≤◌, List, [], ◌∷◌, length, map, Option, Some, None, Bool, true, false, refl, ap, sym, ◌∙◌, subst, arith}
 use Rattle.std.proofs.Math.Seq.{take-length, drop-length}
 use Rattle.std.specs.Prelude.{IfNone}
 use Rattle.std.specs.Option.{is_some}
 use Rattle.std.proofs.lemmas.Bool.{false≢true}
 use Rattle.tv_base.specs.declared.Why.{Why}
 use Rattle.tv_base.specs.declared.Why.TheVariants as why
-use Rattle.tv_journal.specs.declared.Entry.{Entry}
 use Rattle.tv_journal.specs.Grammar.{cause_byte}
 use Rattle.tv_journal.specs.Journals.{JournalState}
 use Rattle.tv_machine_file.specs.declared.machine.Machine.{Machine}
@@ -16,15 +15,14 @@ use Rattle.tv_out.specs.Told.{ToldSink}
 use Rattle.tv_spec.specs.declared.Mode.TheVariants as mode
 use Rattle.tv_spec.specs.declared.Stop.{Stop}
 use Rattle.tv_spec.specs.declared.Stop.TheVariants as stop
-use Rattle.tv_spec.specs.Legal.{after, IsLegal, IsLegalRun, with_outer}
+use Rattle.tv_spec.specs.Legal.{after, IsLegalRun}
 use Rattle.tv_spec.specs.Setup.{Setup, setup_of}
 use Rattle.tv_spec.specs.SoFar.{IsSoFar}
 use Rattle.tv_spec.specs.Solo.{Solo, Going, rounds, first_solo, solo_rounds, solo_run}
-use Rattle.tv_spec.specs.State.{State, first_state}
+use Rattle.tv_spec.specs.State.{first_state}
 use Rattle.tv_spec.specs.Step.{Move, made, ended, CanEnd}
 use Rattle.tv_spec.proofs.Moves.{legal-append}
-use Rattle.tv_runner.specs.declared.run.Ran.{Ran}
-use Rattle.tv_runner.specs.Parts.{Held, solo_at, IsPart}
+use Rattle.tv_runner.specs.Parts.{Held, solo_at}
 use Rattle.tv_runner.specs.Runs.{AreRounds, IsRun, outer_by}
 use Rattle.tv_runner.proofs.Rounds.{rounds-stay}
 
@@ -82,12 +80,12 @@ run-of machine image guest later journal kept closed stopped lost told now first
     let new : Held = record { guest = later; journal = kept; bytes = are.bytes } in
     let solo : Solo = solo_at new [] in
     let rounds_are : ◌≡◌ {A = Going} (solo_rounds machine image (suc are.earlier)) (solo, stopped) =
-        sym (rounds-first machine image guest journal (suc are.earlier) first empty room) ∙ sym (are.part.made []) in
+    sym (rounds-first machine image guest journal (suc are.earlier) first empty room) ∙ sym (are.part.made []) in
     let so_far_old : IsSoFar guest.setup (first_state machine image) (solo_at old []) =
-        subst (λ (setup : Setup). IsSoFar setup (first_state machine image) (solo_at old [])) (sym first.setup)
-        (subst (IsSoFar (setup_of machine) (first_state machine image)) (sym (solo-first machine image guest journal first empty)) (so_far-first machine image)) in
+    subst (λ (setup : Setup). IsSoFar setup (first_state machine image) (solo_at old [])) (sym first.setup)
+    (subst (IsSoFar (setup_of machine) (first_state machine image)) (sym (solo-first machine image guest journal first empty)) (so_far-first machine image)) in
     let so_far : IsSoFar (setup_of machine) (first_state machine image) solo =
-        subst (λ (setup : Setup). IsSoFar setup (first_state machine image) solo) first.setup (are.part.so_far (first_state machine image) [] so_far_old) in
+    subst (λ (setup : Setup). IsSoFar setup (first_state machine image) solo) first.setup (are.part.so_far (first_state machine image) [] so_far_old) in
     record {
       earlier = are.earlier;
       middle = solo_at are.middle [];

@@ -1,10 +1,8 @@
 -- An event of the engine is that of the schedule.
-use Rattle.std.proofs.Common.{◌≡◌, ℕ, Bool, true, false, leb, List, [], ◌∷◌, ◌++◌, Option, Some, None, refl, ap, sym, ◌∙◌, subst, append_assoc, append-nil, arith}
+use Rattle.std.proofs.Common.{◌≡◌, ℕ, Bool, true, false, List, [], ◌∷◌, ◌++◌, Option, Some, None, refl, ap, sym, ◌∙◌, subst, append_assoc, append-nil, arith}
 use Rattle.std.specs.Prelude.{IfNone}
 use Rattle.std.proofs.lemmas.Bool.{false≢true}
-use Rattle.tv_hart.specs.declared.Did.{Did}
 use Rattle.tv_hart.specs.declared.Did.TheVariants as did
-use Rattle.tv_journal.specs.declared.Entry.{Entry}
 use Rattle.tv_journal.specs.declared.Entry.TheVariants as entry
 use Rattle.tv_journal.specs.Journals.{JournalState, has_room}
 use Rattle.tv_model.specs.Guest.{state_of, IsMade, IsAnswered}
@@ -14,10 +12,9 @@ use Rattle.tv_spec.specs.declared.Mode.TheVariants as mode
 use Rattle.tv_spec.specs.declared.Shown.{Shown}
 use Rattle.tv_spec.specs.declared.Stop.{Stop}
 use Rattle.tv_spec.specs.declared.Stop.TheVariants as stop
-use Rattle.tv_spec.specs.Setup.{Setup}
-use Rattle.tv_spec.specs.Shows.{byte_shown, bytes_of}
+use Rattle.tv_spec.specs.Shows.{byte_shown}
 use Rattle.tv_spec.specs.SoFar.{IsSoFar}
-use Rattle.tv_spec.specs.Solo.{Solo, Going, makes, stopped_by, event_by, solo_event, solo_tick, going}
+use Rattle.tv_spec.specs.Solo.{makes, stopped_by, solo_event, solo_tick}
 use Rattle.tv_spec.specs.State.{State}
 use Rattle.tv_spec.specs.Step.{made, done, event_of}
 use Rattle.tv_spec.proofs.SoFar.{so_far-more}
@@ -46,8 +43,8 @@ event-made g later journal kept bytes shown_bytes hart shown before is shown_is 
     let state_same : done g.setup (state_of g) (made (entry.Hart hart)) ≡ state_of later = sym is.state in
     let entries_same : journal.entries ++ entry.Hart hart ∷ [] ≡ kept.entries = ap (λ (j : JournalState). j.entries) (sym kept_is) in
     let bytes_same : (before ++ bytes) ++ byte_shown (event_of (state_of g) hart).2.shown ≡ before ++ shown_bytes =
-        append_assoc before bytes (byte_shown (event_of (state_of g) hart).2.shown)
-        ∙ ap (λ (s : Shown). before ++ (bytes ++ byte_shown s)) (sym shown_is) ∙ ap (λ (xs : List ℕ). before ++ xs) (sym bytes_is) in
+    append_assoc before bytes (byte_shown (event_of (state_of g) hart).2.shown)
+    ∙ ap (λ (s : Shown). before ++ (bytes ++ byte_shown s)) (sym shown_is) ∙ ap (λ (xs : List ℕ). before ++ xs) (sym bytes_is) in
     λ i. record { state = state_same i; entries = entries_same i; bytes = bytes_same i }
 
 pub event-part : (g later : GuestState) (journal kept : JournalState) (bytes shown_bytes : List ℕ) (hart : ℕ) (shown : Shown) (result : Option Stop)

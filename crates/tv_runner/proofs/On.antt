@@ -1,9 +1,7 @@
 -- The parts of the schedule one after another.
 use Rattle.std.proofs.Common.{◌≡◌, ◌<◌, ℕ, suc, List, Option, Some, None, refl, ap, sym, ◌∙◌}
-use Rattle.tv_journal.specs.Journals.{JournalState}
 use Rattle.tv_spec.specs.declared.Mode.TheVariants as mode
 use Rattle.tv_spec.specs.declared.Stop.{Stop}
-use Rattle.tv_spec.specs.declared.Stop.TheVariants as stop
 use Rattle.tv_spec.specs.SoFar.{IsSoFar}
 use Rattle.tv_spec.specs.Setup.{Setup}
 use Rattle.tv_spec.specs.Solo.{Solo, Going, onward, solo_event, turn, turns}

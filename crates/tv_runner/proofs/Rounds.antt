@@ -77,9 +77,9 @@ part-later part g later journal kept said bytes result is =
     let old : Held = record { guest = g; journal = journal; bytes = said } in
     let new : Held = record { guest = later; journal = kept; bytes = said ++ bytes } in
     let old_is : (before : List ℕ) → solo_at (record { guest = g; journal = journal; bytes = [] }) (before ++ said) ≡ solo_at old before =
-        λ before. ap (λ (xs : List ℕ). record (solo_at old before) { bytes = xs }) (append-nil (before ++ said)) in
+    λ before. ap (λ (xs : List ℕ). record (solo_at old before) { bytes = xs }) (append-nil (before ++ said)) in
     let new_is : (before : List ℕ) → solo_at (record { guest = later; journal = kept; bytes = bytes }) (before ++ said) ≡ solo_at new before =
-        λ before. ap (λ (xs : List ℕ). record (solo_at new before) { bytes = xs }) (append_assoc before said bytes) in
+    λ before. ap (λ (xs : List ℕ). record (solo_at new before) { bytes = xs }) (append_assoc before said bytes) in
     record {
       made = λ before.
           ap (λ (solo : Solo). (solo, result)) (sym (new_is before)) ∙ is.made (before ++ said) ∙ ap part (old_is before);

@@ -1,5 +1,5 @@
 -- The engine of runs on one thread, part by part: what it holds is a run so far, and each part is that of the schedule.
-use Rattle.std.specs.Prelude.{◌≡◌, ℕ, ◌+◌, ◌*◌, ◌<◌, ◌≤◌, false, ◌++◌, List, length, Option, Some, None, IfNone}
+use Rattle.std.specs.Prelude.{◌≡◌, ℕ, ◌+◌, ◌*◌, ◌<◌, ◌≤◌, false, ◌++◌, List, length, Option, Some, IfNone}
 use Rattle.tv_journal.specs.Journals.{JournalState}
 use Rattle.tv_model.specs.Guest.{state_of}
 use Rattle.tv_model.specs.GuestState.{GuestState}

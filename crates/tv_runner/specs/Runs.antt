@@ -1,11 +1,9 @@
 -- A run of the engine, and what it came to.
-use Rattle.std.specs.Prelude.{◌≡◌, ℕ, suc, ◌≤◌, ◌++◌, List, [], length, Option, Some, None, IfNone, Bool, true, false, map}
+use Rattle.std.specs.Prelude.{◌≡◌, ℕ, suc, ◌≤◌, ◌++◌, List, length, Option, Some, None, IfNone, Bool, true, false, map}
 use Rattle.tv_base.specs.declared.Why.{Why}
 use Rattle.tv_base.specs.declared.Why.TheVariants as why
 use Rattle.tv_journal.specs.declared.Entry.{Entry}
-use Rattle.tv_journal.specs.Journals.{JournalState}
 use Rattle.tv_machine_file.specs.declared.machine.Machine.{Machine}
-use Rattle.tv_model.specs.GuestState.{GuestState}
 use Rattle.tv_out.specs.Faults.{Rose}
 use Rattle.tv_out.specs.Told.{ToldSink, appended, IsCut}
 use Rattle.tv_spec.specs.declared.Stop.{Stop}

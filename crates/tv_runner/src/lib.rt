@@ -1,8 +1,8 @@
 //! Runs on one thread: the engine that carries out the schedule of rounds and keeps the journal.
 #![tactic(auto)]
 
-mod parts;
 mod output;
+mod parts;
 mod run;
 
 pub use run::{Ran, solo};

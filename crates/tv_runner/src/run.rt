@@ -56,7 +56,12 @@ fn rounds<O: Sink>(guest: &mut Guest, journal: &mut Journal, out: &mut O) -> (Op
 ///
 /// # Errors
 /// Want of memory. Nothing was put then.
-pub fn solo<O: Sink>(alloc: Global, machine: &Machine, image: &[u8], out: &mut O) -> Result<Ran, Memory>
+pub fn solo<O: Sink>(
+    alloc: Global,
+    machine: &Machine,
+    image: &[u8],
+    out: &mut O,
+) -> Result<Ran, Memory>
     requires valid { IsValid machine.now }
     requires fits { length image.now ≤ machine.now.ram }
     ensures ran { IfOk result (λ ran. IsRun machine.now image.now ran (O.told out.old) (O.told out.new)) }

@@ -1,7 +1,7 @@
-use Rattle.std.proofs.Common.{◌≡◌, ap, arith, None}
+use Rattle.std.proofs.Common.{arith}
 use Rattle.tv_spec.specs.Solo.{turns, solo_tick}
 use Rattle.tv_runner.specs.Parts.{Held}
-use Rattle.tv_runner.proofs.On.{part-twice, part-alone}
+use Rattle.tv_runner.proofs.On.{part-twice}
 use Rattle.tv_runner.proofs.parts.round.Goals as goal
 
 pub tick-requires-clause-few : goal.tick-requires-clause-few

@@ -1,7 +1,4 @@
-use Rattle.std.proofs.Common.{sym, ◌∙◌, refl, Bool, true, false, ◌≡◌}
-use Rattle.tv_journal.specs.declared.Entry.TheVariants as entry
-use Rattle.tv_spec.specs.Step.{made}
-use Rattle.tv_model.specs.Guest.{IsMade, IsAnswered}
+use Rattle.std.proofs.Common.{sym, ◌∙◌}
 use Rattle.tv_runner.proofs.Events.{tick-part, tick-answered}
 use Rattle.tv_runner.proofs.parts.tick.Goals as goal
 

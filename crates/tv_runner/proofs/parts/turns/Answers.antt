@@ -1,4 +1,4 @@
-use Rattle.std.proofs.Common.{ℕ, ◌-◌, ◌+◌, arith}
+use Rattle.std.proofs.Common.{◌-◌, ◌+◌, arith}
 use Rattle.tv_spec.specs.Solo.{Solo, turn, turns}
 use Rattle.tv_runner.specs.Parts.{Held}
 use Rattle.tv_runner.proofs.On.{limit-on, on-part, on-stop, on-end, turns-split, turns-over}

@@ -1,4 +1,4 @@
-use Rattle.std.proofs.Common.{[], arith, sym, ap, ◌∙◌, ◌≡◌, not}
+use Rattle.std.proofs.Common.{[], sym, ap, ◌∙◌, ◌≡◌, not}
 use Rattle.tv_out.specs.Told.{appended}
 use Rattle.tv_spec.specs.Solo.{round}
 use Rattle.tv_runner.specs.Parts.{IsPart, IsRoundWithin}
