@@ -97,9 +97,9 @@ next-from rs n cursor e count (Some r) at is =
     let same : ◌≡◌ {A = Option (Entry × ℕ)} (Some (e, count)) (Some (entry_and_count r)) = ap (λ (p : Option (Entry × ℕ) × ℕ). p.0) is in
     (record { found = r; at = at; holds = entries-counted r e count cc }, ap (λ (p : Option (Entry × ℕ) × ℕ). p.1) is)
 
-pub next-found : (rs : List Record) (n cursor : ℕ) (e : Entry) (count : ℕ) → ◌≡◌ {A = Option (Entry × ℕ) × ℕ} (Some (e, count), cursor) (next_record rs n)
+pub next-found : (rs : List Record) (n at cursor : ℕ) (e : Entry) (count : ℕ) → ◌≡◌ {A = Option (Entry × ℕ) × ℕ} (Some (e, count), cursor) (next_record rs at) → at ≡ n
     → IsNext rs n e count × (cursor ≡ n + 1)
-next-found rs n cursor e count is = next-from rs n cursor e count (slice_get rs n) refl is
+next-found rs n at cursor e count is here = subst (λ (k : ℕ). IsNext rs k e count × (cursor ≡ k + 1)) here (next-from rs at cursor e count (slice_get rs at) refl is)
 
 pub next-none : (rs : List Record) (n cursor : ℕ) (d : Record) → ◌≡◌ {A = Option (Entry × ℕ) × ℕ} (None, cursor) (next_record rs n) → n < length rs → ⊥
 next-none rs n cursor d is within =

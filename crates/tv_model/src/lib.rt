@@ -9,3 +9,6 @@ mod replays;
 pub use guest::Guest;
 pub use monitor::{Monitor, StepFault};
 pub use replays::{Replayed, no_legal_run_is_refused, replay};
+
+#[cfg(test)]
+mod tests;

@@ -16,7 +16,7 @@ use tv_journal::{Entry, Journal};
 use tv_machine_file::Machine;
 
 /// What a replay found.
-#[derive(Clone, Copy)]
+#[derive(Clone, Copy, Debug, PartialEq, Eq)]
 pub enum Replayed {
     /// The journal is a legal run, with this exit status; `None` where the run goes on.
     Legal(Option<u8>),

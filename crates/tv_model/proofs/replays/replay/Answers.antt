@@ -37,32 +37,26 @@ unreachable-requires c =
 pub returns-in-Err-Illegal : goal.returns-in-Err-Illegal
 returns-in-Err-Illegal c =
     let entries = c.args.journal.now.entries in
-    let found = next-found (records_of entries) c.loop-record.cursor c.next.new.cursor c.in-Some.entry c.in-Some.count c.in-Some.ensures in
-    let here : IsNext (records_of entries) c.loop-record.record c.in-Some.entry c.in-Some.count =
-    subst (λ (n : ℕ). IsNext (records_of entries) n c.in-Some.entry c.in-Some.count) c.loop-record.invariant.cursor found.0 in
+    let found = next-found (records_of entries) c.loop-record.record c.loop-record.cursor c.next.new.cursor c.in-Some.entry c.in-Some.count c.in-Some.ensures c.loop-record.invariant.cursor in
     entry-illegal c.args.machine.now c.args.image.now entries c.args.journal.now.outer c.end_if_due.new.monitor.guest c.loop-record.record c.in-Some.count c.in-Some.entry c.loop-record.outer
     (played-due c.args.machine.now c.args.image.now entries c.args.journal.now.outer c.loop-record.monitor.guest c.end_if_due.new.monitor.guest c.loop-record.record c.loop-record.outer
     c.loop-record.invariant.played c.if-not-end_if_due.ensures.0)
-    here (rw c.in-Err-Illegal.field-0-is at c.in-Err-Illegal.ensures)
+    found.0 (rw c.in-Err-Illegal.field-0-is at c.in-Err-Illegal.ensures)
 
 pub come_closer-outer-requires : goal.come_closer-outer-requires
 come_closer-outer-requires c =
     let entries = c.args.journal.now.entries in
-    let found = next-found (records_of entries) c.loop-record.cursor c.next.new.cursor c.in-Some.entry c.in-Some.count c.in-Some.ensures in
-    let here : IsNext (records_of entries) c.loop-record.record c.in-Some.entry c.in-Some.count =
-    subst (λ (n : ℕ). IsNext (records_of entries) n c.in-Some.entry c.in-Some.count) c.loop-record.invariant.cursor found.0 in
+    let found = next-found (records_of entries) c.loop-record.record c.loop-record.cursor c.next.new.cursor c.in-Some.entry c.in-Some.count c.in-Some.ensures c.loop-record.invariant.cursor in
     let played : IsPlayed c.args.machine.now c.args.image.now entries c.args.journal.now.outer c.end_if_due.new.monitor.guest c.loop-record.record (not_due c.loop-record.outer) =
     played-due c.args.machine.now c.args.image.now entries c.args.journal.now.outer c.loop-record.monitor.guest c.end_if_due.new.monitor.guest c.loop-record.record c.loop-record.outer
     c.loop-record.invariant.played c.if-not-end_if_due.ensures.0 in
     subst (HasLeft c.in-Some.count) (sym c.if-not-end_if_due.ensures.1)
-    (left-next (records_of entries) c.loop-record.record c.in-Some.count c.in-Some.entry c.loop-record.outer here played.border)
+    (left-next (records_of entries) c.loop-record.record c.in-Some.count c.in-Some.entry c.loop-record.outer found.0 played.border)
 
 pub loop-record-preserved : goal.loop-record-preserved
 loop-record-preserved c =
     let entries = c.args.journal.now.entries in
-    let found = next-found (records_of entries) c.loop-record.cursor c.next.new.cursor c.in-Some.entry c.in-Some.count c.in-Some.ensures in
-    let here : IsNext (records_of entries) c.loop-record.record c.in-Some.entry c.in-Some.count =
-    subst (λ (n : ℕ). IsNext (records_of entries) n c.in-Some.entry c.in-Some.count) c.loop-record.invariant.cursor found.0 in
+    let found = next-found (records_of entries) c.loop-record.record c.loop-record.cursor c.next.new.cursor c.in-Some.entry c.in-Some.count c.in-Some.ensures c.loop-record.invariant.cursor in
     let played : IsPlayed c.args.machine.now c.args.image.now entries c.args.journal.now.outer c.end_if_due.new.monitor.guest c.loop-record.record (not_due c.loop-record.outer) =
     played-due c.args.machine.now c.args.image.now entries c.args.journal.now.outer c.loop-record.monitor.guest c.end_if_due.new.monitor.guest c.loop-record.record c.loop-record.outer
     c.loop-record.invariant.played c.if-not-end_if_due.ensures.0 in
@@ -72,8 +66,8 @@ loop-record-preserved c =
       played =
           subst (IsPlayed c.args.machine.now c.args.image.now entries c.args.journal.now.outer c.step_often.new.monitor.guest (c.loop-record.record + 1)) (sym closer_is)
           (played-record c.args.machine.now c.args.image.now entries c.args.journal.now.outer c.end_if_due.new.monitor.guest c.step_often.new.monitor.guest c.loop-record.record c.in-Some.count
-          c.in-Some.entry c.loop-record.outer played here c.in-Ok.ensures);
-      cursor = found.1 ∙ ap (λ (n : ℕ). n + 1) c.loop-record.invariant.cursor;
+          c.in-Some.entry c.loop-record.outer played found.0 c.in-Ok.ensures);
+      cursor = found.1;
     }
 
 pub returns-then-not-end_if_due-2 : goal.returns-then-not-end_if_due-2
