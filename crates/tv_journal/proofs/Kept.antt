@@ -1,5 +1,5 @@
 -- What a journal keeps stays so where an entry is added.
-use Rattle.std.proofs.Common.{◌≡◌, ℕ, ◌+◌, ◌-◌, ◌^◌, ◌<◌, ◌≤◌, leb, List, [], ◌∷◌, ◌++◌, Option, Some, None, Bool, true, false, cond, replicate, length, take, drop, refl, ap, sym, ◌∙◌, arith, length-append, inl, inr, ltb, set, length-set, add-one}
+use Rattle.std.proofs.Common.{◌≡◌, ℕ, ◌+◌, ◌-◌, ◌^◌, ◌<◌, ◌≤◌, leb, List, [], ◌∷◌, ◌++◌, Option, Some, None, Bool, true, false, cond, replicate, length, take, drop, refl, ap, sym, ◌∙◌, arith, length-append, inl, inr, ltb, length-set, add-one}
 use Rattle.std.proofs.lemmas.Bool.{false≢true, le-leb}
 use Rattle.std.proofs.lemmas.Bool.Decides.{eqb_tells}
 use Rattle.std.proofs.lemmas.List.{take-append-le, drop-append-le, length-replicate}
@@ -11,9 +11,9 @@ use Rattle.tv_journal.specs.declared.record.Record.{Record}
 use Rattle.tv_journal.specs.declared.record.Record.TheVariants as record_of
 use Rattle.tv_journal.specs.Entries.{entries_of, record_count}
 use Rattle.tv_journal.specs.Grammar.{IsRecord, Differs, AreApart, EndFits, last_record, IsTick, outer_of}
-use Rattle.tv_journal.specs.Journals.{JournalState, IsKept, IsEntry, MayFollow, FitsEntry, CanCount, added, hart_added, added_within, pushed, has_room, joins_last}
+use Rattle.tv_journal.specs.Journals.{JournalState, IsKept, IsOuterEnd, IsEntry, MayFollow, FitsEntry, CanCount, added, hart_added, added_within, pushed, has_room, joins_last}
 use Rattle.tv_journal.proofs.Added.{last_after-none, each-push, apart-push, ends-with, entries-push, entries-added, each-longer, apart-longer}
-use Rattle.tv_journal.proofs.Records.{count-again}
+use Rattle.tv_journal.proofs.Records.{count-again, kept-records}
 
 -- a last run has no more events than there are
 pub run-within : (rs : List Record) (hart count : ℕ) → last_record rs ≡ Some (record_of.Hart hart count) → count ≤ length (entries_of rs)
@@ -160,3 +160,12 @@ has-room rs end events room capacity payload e journal joins kept is few fits en
     room-by joins (length rs) room (length (added rs e)) kept.room (length-added rs e ∙ ap (λ (b : Bool). cond b (length rs) (length rs + 1)) (sym joins_is))
     ∙ ap (λ (n : ℕ). leb n room) (sym (count-added rs end events room capacity e kept few_rs fits entry_is))
     ∙ ap (λ (j : JournalState). has_room j e) is
+
+-- the end that no event made is that of the end line
+pub has-line : (rs : List Record) (end : Option EndLine) (events room capacity : ℕ) (entries : List Entry) → IsKept rs end events room capacity → entries_of rs ≡ entries
+    → IsOuterEnd entries (outer_of end)
+has-line rs end events room capacity entries kept is = record {
+  line = end;
+  fits = rw (kept-records rs entries kept.are.each kept.are.apart is) kept.are.ended;
+  outer_is = refl;
+}

@@ -1,4 +1,5 @@
 pub mod Added
+pub mod Cuts
 pub mod Ends
 pub mod Files
 pub mod Fronts

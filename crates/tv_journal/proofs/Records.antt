@@ -1,5 +1,5 @@
 -- Records and the entries that they hold.
-use Rattle.std.proofs.Common.{◌≡◌, ℕ, zero, suc, ◌*◌, ◌-◌, ◌^◌, ◌≤◌, List, [], ◌∷◌, ◌++◌, Option, Some, None, replicate, length, refl, ap, sym, ◌∙◌, arith}
+use Rattle.std.proofs.Common.{◌≡◌, ℕ, zero, suc, ◌*◌, ◌-◌, ◌^◌, ◌<◌, ◌≤◌, List, [], ◌∷◌, ◌++◌, Option, Some, None, replicate, length, refl, ap, sym, ◌∙◌, arith}
 use Rattle.std.proofs.lemmas.Bool.Decides.{nat_tests}
 use Rattle.std.proofs.lemmas.Grind.{common_steps}
 use Rattle.std.specs.List.{AllByRecursion}
@@ -24,14 +24,30 @@ run-joined zero hart n es rs apart is = ap (joined (entry.Hart hart)) is ∙ joi
 run-joined (suc k) hart n es rs apart is =
     ap (joined (entry.Hart hart)) (run-joined k hart n es rs apart is) ∙ grind (arith, nat_tests)
 
+-- a record of some events
+abbrev pub IsSome : Record → Type 0
+IsSome (record_of.Hart hart count) = 0 < count
+IsSome (record_of.Tick n) = Unit {0}
+
 -- the records of the events of records are those records
-pub records-again : (before : Option Record) (rs : List Record) → AllByRecursion IsRecord rs → AreApart before rs → records_of (entries_of rs) ≡ rs
+pub records-of-runs : (before : Option Record) (rs : List Record) → AllByRecursion IsSome rs → AreApart before rs → records_of (entries_of rs) ≡ rs
 unfolding records_of
-records-again before [] each apart = refl
-records-again before (record_of.Tick n ∷ rs) each apart = ap (λ (more : List Record). record_of.Tick n ∷ more) (records-again (Some (record_of.Tick n)) rs each.1 apart.1)
-records-again before (record_of.Hart hart zero ∷ rs) each apart = absurd (omega arith)
-records-again before (record_of.Hart hart (suc k) ∷ rs) each apart =
-    run-joined k hart (suc k) (entries_of rs) rs apart.1 (records-again (Some (record_of.Hart hart (suc k))) rs each.1 apart.1)
+records-of-runs before [] each apart = refl
+records-of-runs before (record_of.Tick n ∷ rs) each apart = ap (λ (more : List Record). record_of.Tick n ∷ more) (records-of-runs (Some (record_of.Tick n)) rs each.1 apart.1)
+records-of-runs before (record_of.Hart hart zero ∷ rs) each apart = absurd (omega arith)
+records-of-runs before (record_of.Hart hart (suc k) ∷ rs) each apart =
+    run-joined k hart (suc k) (entries_of rs) rs apart.1 (records-of-runs (Some (record_of.Hart hart (suc k))) rs each.1 apart.1)
+
+is-some : (r : Record) → IsRecord r → IsSome r
+is-some (record_of.Hart hart count) is = is.1
+is-some (record_of.Tick n) is = tt
+
+each-is-some : (rs : List Record) → AllByRecursion IsRecord rs → AllByRecursion IsSome rs
+each-is-some [] each = tt
+each-is-some (r ∷ rs) each = (is-some r each.0, each-is-some rs each.1)
+
+pub records-again : (before : Option Record) (rs : List Record) → AllByRecursion IsRecord rs → AreApart before rs → records_of (entries_of rs) ≡ rs
+records-again before rs each apart = records-of-runs before rs (each-is-some rs each) apart
 
 pub count-again : (rs : List Record) → AllByRecursion IsRecord rs → AreApart None rs → record_count (entries_of rs) ≡ length rs
 unfolding record_count

@@ -6,8 +6,8 @@ use Rattle.tv_journal.specs.declared.Entry.TheVariants as entry
 use Rattle.tv_journal.specs.declared.record.EndLine.{EndLine}
 use Rattle.tv_journal.specs.declared.record.Record.{Record}
 use Rattle.tv_journal.specs.declared.record.Record.TheVariants as record_of
-use Rattle.tv_journal.specs.Entries.{entries_of, record_count}
-use Rattle.tv_journal.specs.Grammar.{AreLines, last_record}
+use Rattle.tv_journal.specs.Entries.{entries_of, record_count, records_of}
+use Rattle.tv_journal.specs.Grammar.{AreLines, EndFits, last_record, outer_of}
 
 -- its entries, one for each event; the end that no event made, with the number of entries before it; and its room, in
 -- records and in bytes of payload
@@ -41,6 +41,12 @@ IsEntry (entry.Tick n) = 0 < n
 abbrev pub MayFollow : Option (ℕ × Why) → Entry → Type 0
 MayFollow (Some _) (entry.Hart hart) = ⊥
 MayFollow _ _ = Unit {0}
+
+-- an end that no event made is that of an end line after some of the records
+pub record IsOuterEnd (entries : List Entry) (outer : Option (ℕ × Why)) : Type 0 where
+  pub line : Option EndLine
+  pub fits : EndFits (records_of entries) line
+  pub outer_is : outer ≡ outer_of line
 
 -- records with an entry after them: it joins a last record of the same hart
 abbrev pub hart_added : List Record → ℕ → Option Record → List Record

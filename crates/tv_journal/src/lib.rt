@@ -8,7 +8,7 @@ ghost use Rattle.tv_journal.specs.declared.Entry.{Entry};
 ghost use Rattle.tv_journal.specs.Entries.{record_count, records_of};
 ghost use Rattle.tv_journal.specs.Grammar.{cause_byte, SpellsJournal, IsLongestFront};
 ghost use Rattle.tv_journal.specs.Writing.{IsSaved};
-ghost use Rattle.tv_journal.specs.Journals.{has_room, pushed, next_record, IsEntry, MayFollow};
+ghost use Rattle.tv_journal.specs.Journals.{has_room, pushed, next_record, IsEntry, IsOuterEnd, MayFollow};
 
 mod field;
 mod reader;
@@ -146,9 +146,11 @@ impl Journal {
         });
     }
 
-    /// The end that no event made, with the number of entries before it; `None` where none is set.
+    /// The end that no event made, with the number of entries before it; `None` where none is set. It stands between two
+    /// records, and no event of a hart comes after it.
     pub fn outer(&self) -> Option<(u64, Why)>
-        ensures { result ≡ self.now.outer }
+        ensures outer { result ≡ self.now.outer }
+        ensures line { IsOuterEnd self.now.entries result }
     {
         match self.end {
             Some(end) => Some((end.entries, end.why)),

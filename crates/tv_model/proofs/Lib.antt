@@ -1,3 +1,5 @@
 pub mod AtOnce
 pub mod First
 pub mod Made
+pub mod Stepping
+pub mod Played

@@ -1,20 +1,18 @@
 -- A guest's machine, and the monitor's state that it is.
-use Rattle.std.specs.Prelude.{◌≡◌, ℕ, ◌+◌, ◌<◌, ◌≤◌, List, length, Option, Some, None, Bool, true, false, EachIndex}
+use Rattle.std.specs.Prelude.{◌≡◌, ℕ, ◌<◌, ◌≤◌, List, length, Option, Some, None, Bool, true, false}
 use Rattle.std.specs.List.{slice_index_or, AllByRecursion}
-use Rattle.tv_base.specs.declared.Why.{Why}
 use Rattle.tv_hart.specs.declared.Did.TheVariants as did
 use Rattle.tv_hart.specs.Hart.{first_hart}
 use Rattle.tv_hart.specs.HartState.{HartState}
-use Rattle.tv_journal.specs.declared.Entry.{Entry}
 use Rattle.tv_journal.specs.declared.Entry.TheVariants as entry
 use Rattle.tv_spec.specs.declared.Mode.{Mode}
 use Rattle.tv_spec.specs.declared.Mode.TheVariants as mode
 use Rattle.tv_spec.specs.declared.Shown.{Shown}
 use Rattle.tv_spec.specs.declared.Shown.TheVariants as shown
 use Rattle.tv_machine_file.specs.declared.machine.Machine.{Machine}
-use Rattle.tv_spec.specs.Setup.{Setup, setup_of}
+use Rattle.tv_spec.specs.Setup.{setup_of}
 use Rattle.tv_spec.specs.State.{State, first_state}
-use Rattle.tv_spec.specs.Step.{Move, made, ended, Can, CanStep, CanTick, CanEnd, done, event_of}
+use Rattle.tv_spec.specs.Step.{Move, made, Can, done, event_of}
 use Rattle.tv_model.specs.GuestState.{GuestState}
 
 -- a hart that waits for no load

@@ -8,7 +8,7 @@ use Rattle.tv_spec.specs.Shows.{bytes_of, exit_status}
 use Rattle.tv_spec.specs.Step.{Move, made, ended, Can}
 use Rattle.tv_model.specs.declared.monitor.StepFault.{StepFault}
 use Rattle.tv_model.specs.declared.monitor.StepFault.TheVariants as step_fault
-use Rattle.tv_model.specs.Guest.{state_of, IsMade, IsAnswered}
+use Rattle.tv_model.specs.Guest.{state_of, IsMade}
 use Rattle.tv_model.specs.MonitorState.{MonitorState}
 
 -- a step was made, and its byte at the debug port came after those before

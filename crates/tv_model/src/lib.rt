@@ -4,6 +4,11 @@
 mod guest;
 mod local;
 mod monitor;
+mod replays;
 
 pub use guest::Guest;
 pub use monitor::{Monitor, StepFault};
+pub use replays::{Replayed, no_legal_run_is_refused, replay};
+
+#[cfg(test)]
+mod tests;

@@ -1,7 +1,7 @@
-use Rattle.std.proofs.Common.{◌≡◌, ℕ, List, Bool, true, false, cond, ltb, length, ap, sym, ◌∙◌, arith}
+use Rattle.std.proofs.Common.{◌≡◌, ℕ, List, true, false, ltb, length, ap, ◌∙◌, arith}
 use Rattle.tv_journal.specs.declared.record.Record.{Record}
 use Rattle.tv_journal.specs.Grammar.{last_record}
-use Rattle.tv_journal.specs.Journals.{has_room, joins_last}
+use Rattle.tv_journal.specs.Journals.{joins_last}
 use Rattle.tv_journal.proofs.Kept.{has-room}
 use Rattle.tv_journal.proofs.Journal.has_room.Goals as goal
 

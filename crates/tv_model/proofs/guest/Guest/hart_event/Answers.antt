@@ -1,10 +1,8 @@
-use Rattle.std.proofs.Common.{◌≡◌, ℕ, ◌+◌, ◌<◌, eqb, length, subst, ap, sym, ◌∙◌, inl, inr, arith, rules}
+use Rattle.std.proofs.Common.{◌≡◌, subst, ap, ◌∙◌, inl, inr, arith}
 use Rattle.tv_hart.proofs.Steps.{IsOver}
-use Rattle.tv_spec.specs.declared.Mode.{Mode}
 use Rattle.tv_spec.specs.declared.Mode.TheVariants as mode
 use Rattle.tv_spec.specs.LocalState.{LocalState}
-use Rattle.tv_spec.specs.Step.{mode_by, end_at, end_shown}
-use Rattle.tv_model.specs.Guest.{IsGuest}
+use Rattle.tv_spec.specs.Step.{end_shown}
 use Rattle.tv_model.proofs.AtOnce.{local_over}
 use Rattle.tv_model.proofs.Made.{made_by, guest-event}
 use Rattle.tv_model.proofs.guest.Guest.hart_event.Goals as goal
@@ -12,7 +10,7 @@ use Rattle.tv_model.proofs.guest.Guest.hart_event.Goals as goal
 pub unreachable-requires : goal.unreachable-requires
 unreachable-requires c =
     let over : IsOver c.step.result =
-        local_over c.index_mut.result.now c.self.inside.local (c.step.result, c.step.new.self, c.step.new.place) c.step.ensures.event in
+    local_over c.index_mut.result.now c.self.inside.local (c.step.result, c.step.new.self, c.step.new.place) c.step.ensures.event in
     elim c.in-Held.is [ inl held ↦ subst IsOver held over | inr full ↦ subst IsOver full over ]
 
 pub invariant_of-self-2 : goal.invariant_of-self-2

@@ -1,0 +1,8 @@
+use Rattle.std.proofs.Common.{replicate}
+use Rattle.tv_spec.specs.Step.{made}
+use Rattle.tv_model.specs.Replaying.{AreMade}
+use Rattle.tv_model.proofs.replays.step_often.Given as goal
+
+-- the entry was made so often
+abbrev pub invariant-loop-time : goal.invariant-loop-time
+invariant-loop-time l = AreMade l.fn.monitor.guest l.monitor.guest (replicate l._time (made l.entry))

@@ -1,0 +1,67 @@
+-- The steps of a replay.
+use Rattle.std.specs.Prelude.{◌≡◌, ◌≢◌, ℕ, zero, suc, ◌-◌, ◌<◌, ◌≤◌, List, [], ◌∷◌, Option, Some, None, Bool, true, false, Result, Ok, Err, ⊤, replicate}
+use Rattle.tv_base.specs.declared.Why.{Why}
+use Rattle.tv_journal.specs.declared.Entry.{Entry}
+use Rattle.tv_journal.specs.Grammar.{cause_byte}
+use Rattle.tv_spec.specs.Legal.{IsLegal, after}
+use Rattle.tv_spec.specs.Step.{Move, made, ended, Can}
+use Rattle.tv_model.specs.declared.monitor.StepFault.{StepFault}
+use Rattle.tv_model.specs.declared.monitor.StepFault.TheVariants as step_fault
+use Rattle.tv_model.specs.Guest.{state_of}
+use Rattle.tv_model.specs.GuestState.{GuestState}
+
+-- moves were made one after the other
+pub record AreMade (old new : GuestState) (moves : List Move) : Type 0 where
+  pub legal : IsLegal old.setup (state_of old) moves
+  pub setup : new.setup ≡ old.setup
+  pub state : state_of new ≡ after old.setup (state_of old) moves
+
+-- an entry was made a few times, and may not stand once more
+pub record StopsAmong (old : GuestState) (entry : Entry) (count : ℕ) : Type 0 where
+  pub times : ℕ
+  pub few : times < count
+  pub legal : IsLegal old.setup (state_of old) (replicate times (made entry))
+  pub cannot : ¬ Can old.setup (after old.setup (state_of old) (replicate times (made entry))) (made entry)
+
+-- an entry so often, by the answer to it
+abbrev pub StepsOften : GuestState → GuestState → Entry → ℕ → Result ⊤ StepFault → Type 0
+StepsOften old new entry count (Ok _) = AreMade old new (replicate count (made entry))
+StepsOften old new entry count (Err step_fault.Illegal) = StopsAmong old entry count
+StepsOften old new entry count (Err step_fault.Memory) = Unit {0}
+
+-- an outer end that is to come has one of the causes that no entry makes; it is told with the number of entries that
+-- still come before it
+abbrev pub HasCause : Option (ℕ × Why) → Type 0
+HasCause None = Unit {0}
+HasCause (Some (left, cause)) = cause_byte cause ≢ None
+
+-- the outer end where no entry comes before it, and what is to come then
+abbrev pub due : Option (ℕ × Why) → List Move
+due None = []
+due (Some (zero, cause)) = ended cause ∷ []
+due (Some (suc n, cause)) = []
+
+abbrev pub not_due : Option (ℕ × Why) → Option (ℕ × Why)
+not_due None = None
+not_due (Some (zero, cause)) = None
+not_due (Some (suc n, cause)) = Some (suc n, cause)
+
+-- the outer end is due, and may not stand
+pub record IsDueTooLate (old : GuestState) (outer : Option (ℕ × Why)) : Type 0 where
+  pub cause : Why
+  pub due : outer ≡ Some (0, cause)
+  pub cannot : ¬ Can old.setup (state_of old) (ended cause)
+
+-- an outer end that is due, by the answer to it
+abbrev pub EndsDue : GuestState → GuestState → Option (ℕ × Why) → Option (ℕ × Why) → Bool → Type 0
+EndsDue old new outer later true = AreMade old new (due outer) × (later ≡ not_due outer)
+EndsDue old new outer later false = IsDueTooLate old outer
+
+-- so many entries come before it, and were made
+abbrev pub HasLeft : ℕ → Option (ℕ × Why) → Type 0
+HasLeft count None = Unit {0}
+HasLeft count (Some (left, cause)) = count ≤ left
+
+abbrev pub closer : ℕ → Option (ℕ × Why) → Option (ℕ × Why)
+closer count None = None
+closer count (Some (left, cause)) = Some (left - count, cause)

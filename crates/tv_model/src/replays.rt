@@ -1,0 +1,109 @@
+//! The replay of a journal: whether it is a legal run of a machine with an image.
+
+ghost use Rattle.std.specs.Prelude.{◌≡◌, ◌≤◌, ℕ, List, Option, IfOk, length};
+ghost use Rattle.tv_base.specs.declared.Why.{Why};
+ghost use Rattle.tv_journal.specs.declared.Entry.{Entry};
+ghost use Rattle.tv_machine_file.specs.declared.machine.Machine.{Machine};
+ghost use Rattle.tv_machine_file.specs.Valid.{IsValid};
+ghost use Rattle.tv_spec.specs.Legal.{IsLegalRun};
+ghost use Rattle.tv_model.specs.Replay.{IsFirstIllegal, ReplaysSo};
+ghost use Rattle.tv_model.specs.Replaying.{StepsOften, EndsDue, HasCause, HasLeft, closer};
+
+use crate::monitor::{Monitor, StepFault};
+use std::alloc::Global;
+use tv_base::{Memory, Why};
+use tv_journal::{Entry, Journal};
+use tv_machine_file::Machine;
+
+/// What a replay found.
+#[derive(Clone, Copy, Debug, PartialEq, Eq)]
+pub enum Replayed {
+    /// The journal is a legal run, with this exit status; `None` where the run goes on.
+    Legal(Option<u8>),
+    /// The journal is no legal run. The number, from 0, is that of the first record with an entry that may not stand where
+    /// it stands; where the end that no event made may not stand, it is the number of records before that end.
+    Illegal(u32),
+}
+
+/// Makes the entries of a journal one after the other, with the end that no event made at its place, on a machine with an
+/// image of up to `ram` bytes.
+///
+/// # Errors
+/// Want of memory.
+pub fn replay(
+    alloc: Global,
+    machine: &Machine,
+    image: &[u8],
+    journal: &Journal,
+) -> Result<Replayed, Memory>
+    requires valid { IsValid machine.now }
+    requires fits { length image.now ≤ machine.now.ram }
+    ensures { IfOk result (λ replayed. ReplaysSo machine.now image.now journal.now replayed) }
+{
+    let mut monitor = Monitor::new(alloc, machine, image)?;
+    let mut outer = journal.outer();
+    let mut cursor = journal.cursor();
+    let records = journal.records();
+    for record in 0..records {
+        if !end_if_due(&mut monitor, &mut outer) {
+            return Ok(Replayed::Illegal(record));
+        }
+        let Some((entry, count)) = journal.next(&mut cursor) else {
+            unreachable!();
+        };
+        match step_often(&mut monitor, &entry, count) {
+            Ok(()) => {}
+            Err(StepFault::Illegal) => return Ok(Replayed::Illegal(record)),
+            Err(StepFault::Memory) => return Err(Memory),
+        }
+        outer = come_closer(outer, count);
+    }
+    if !end_if_due(&mut monitor, &mut outer) {
+        return Ok(Replayed::Illegal(records));
+    }
+    Ok(Replayed::Legal(monitor.status()))
+}
+
+/// Makes an entry so often.
+fn step_often(monitor: &mut Monitor, entry: &Entry, count: u32) -> Result<(), StepFault>
+    ensures { StepsOften monitor.old.guest monitor.new.guest entry.now count result }
+{
+    for _time in 0..count {
+        match monitor.step(entry) {
+            Ok(()) => {}
+            Err(fault) => return Err(fault),
+        }
+    }
+    Ok(())
+}
+
+/// Makes the outer end where no entry is left before it; false where it may not stand there.
+fn end_if_due(monitor: &mut Monitor, outer: &mut Option<(u64, Why)>) -> bool
+    requires { HasCause outer.old }
+    ensures { EndsDue monitor.old.guest monitor.new.guest outer.old outer.new result }
+{
+    match *outer {
+        Some((0, why)) => {
+            *outer = None;
+            monitor.end(why)
+        }
+        Some(_) | None => true,
+    }
+}
+
+/// The outer end with so many entries less before it.
+fn come_closer(outer: Option<(u64, Why)>, count: u32) -> Option<(u64, Why)>
+    requires { HasLeft count outer }
+    ensures { result ≡ closer count outer }
+{
+    match outer {
+        Some((left, why)) => Some((left - u64::from(count), why)),
+        None => None,
+    }
+}
+
+/// A run with a first entry or end that may not stand is no legal run: a replay never refuses one that is.
+pub fn no_legal_run_is_refused()
+    ensures { (machine : Machine) (image : List ℕ) (entries : List Entry) (outer : Option (ℕ × Why)) (n : ℕ)
+        → IsFirstIllegal machine image entries outer n → ¬ IsLegalRun machine image entries outer }
+{}
