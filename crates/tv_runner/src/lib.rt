@@ -5,4 +5,5 @@ mod output;
 mod parts;
 mod run;
 
+pub use output::put_all;
 pub use run::{Ran, solo};

@@ -1,5 +1,3 @@
-pub mod AtOnce
-pub mod Pieces
-pub mod Runs
 pub mod Said
-pub mod Two
+pub mod Saved
+pub mod Replays

@@ -1,7 +1,4 @@
-pub mod Flat
-pub mod FlatState
-pub mod Map
-pub mod Run
 pub mod Answers
-pub mod CommandLine
+pub mod Flat
 pub mod Texts
+pub mod Replays

@@ -1,134 +1,141 @@
-//! The flat machine's memory and ports.
+//! The command `flat`.
 
-ghost use Rattle.std.specs.Prelude.{◌≡◌, length};
-ghost use Rattle.tv_top.specs.Flat.{finish, finish_by};
+ghost use Rattle.std.specs.Prelude.{◌≡◌, ◌<◌, ◌≤◌, IfOk, IfErr, OnErr, length};
+ghost use Rattle.std.specs.Option.{option_map};
+ghost use Rattle.tv_machine_file.specs.Valid.{IsValid};
+ghost use Rattle.tv_top.specs.Flat.{FlatGives, IsAsked, HasImage, IsAskedBoth, IsNotLoaded, SavedBy, flat_with};
+ghost use Rattle.tv_spec.specs.Shows.{exit_status};
+ghost use Rattle.tv_runner.specs.Runs.{IsRun};
+ghost use Rattle.tv_top.specs.Texts.{run_status, stop_status};
 
-use crate::map::{FLAT_RAM_BYTES, Port, find_port};
-use std::marker::Model;
-use tv_base::{HartNo, Width};
-use tv_hart::{Loaded, Place, Stored};
-use tv_ram::Ram;
+use crate::refusal::Refusal;
+use std::alloc::Global;
+use tv_base::{Memory, Why};
+use tv_journal::Journal;
+use tv_machine_file::Machine;
+use tv_out::{LoadFault, Sink, Store};
+use tv_runner::{Ran, solo};
+use tv_spec::Stop;
 
-/// What a store to the finisher asks for.
-#[derive(Clone, Copy)]
-pub enum Finish {
-    /// The machine is to be switched off.
-    Off,
-    /// The guest failed, with a code.
-    Failed(u16),
-}
+/// Bytes of the flat machine's memory.
+const FLAT_RAM_BYTES: usize = 0x10_0000;
 
-/// What an event showed outside the machine.
-#[derive(Clone, Copy)]
-pub enum Shown {
-    /// Nothing.
-    Nothing,
-    /// A byte at the debug port.
-    Byte(u8),
-    /// The end of the run.
-    Finish(Finish),
-}
-
-/// Memory, and what the last event showed.
+/// A run of the flat machine.
 #[derive(Drop)]
-pub struct Flat {
-    ram: Ram,
-    shown: Shown,
+pub struct FlatRun {
+    /// What it came to.
+    pub ran: Ran,
+    /// Whether its journal went to the file that was asked for, if one was.
+    pub saved: bool,
 }
 
-impl Model for Flat {
-    ghost use Rattle.std.specs.Prelude.{◌≡◌, length};
-    ghost use Rattle.tv_top.specs.FlatState.{FlatState};
-
-    ghost Value = { FlatState };
-
-    ghost view = { λ flat. record { ram = flat.ram; shown = flat.shown } };
-
-    ghost invariant = { λ flat. length flat.ram ≡ 0x10_0000 };
-}
-
-impl Flat {
-    /// A machine with this memory that has shown nothing.
-    pub fn new(ram: Ram) -> Flat
-        requires { length ram ≡ FLAT_RAM_BYTES }
-        ensures ram { result.ram ≡ ram }
-        ensures shown { result.shown ≡ Shown.Nothing }
+impl FlatRun {
+    /// The exit status of the run.
+    pub fn status(&self) -> u8
+        ensures { result ≡ run_status self.now }
     {
-        Flat {
-            ram,
-            shown: Shown::Nothing,
+        if self.ran.lost || !self.saved {
+            return 5;
         }
-    }
-
-    /// What the last event showed, which is then taken as seen.
-    #[inline(always)]
-    pub fn take_shown(&mut self) -> Shown
-        ensures shown { result ≡ self.old.shown }
-        ensures taken { self.new ≡ record self.old { shown = Shown.Nothing } }
-    {
-        let shown = self.shown;
-        self.shown = Shown::Nothing;
-        shown
+        status_of(self.ran.stop)
     }
 }
 
-impl Place for Flat {
-    ghost use Rattle.tv_top.specs.Flat.{flat_meaning};
-
-    ghost meaning = { flat_meaning };
-
-    #[inline(always)]
-    fn fetch(&mut self, addr: u64) -> Option<u32> {
-        self.ram.word(addr)
-    }
-
-    #[inline(always)]
-    fn load(&mut self, _hart: HartNo, width: Width, addr: u64) -> Loaded {
-        match self.ram.load(addr, width) {
-            Some(value) => Loaded::Value(value),
-            None => match find_port(addr, width) {
-                Some(_) => Loaded::Value(0),
-                None => Loaded::Nothing,
-            },
-        }
-    }
-
-    #[inline(always)]
-    fn store(&mut self, _hart: HartNo, width: Width, addr: u64, value: u64) -> Stored {
-        if self.ram.store(addr, width, value) {
-            return Stored::Done;
-        }
-        match find_port(addr, width) {
-            Some(Port::Debug) => self.shown = Shown::Byte((value & 0xff) as u8),
-            Some(Port::Finisher) => match finish_of(width, value) {
-                Some(finish) => self.shown = Shown::Finish(finish),
-                None => {}
-            },
-            None => return Stored::Nothing,
-        }
-        Stored::Done
-    }
-}
-
-/// What a store to the finisher means.
-fn finish_of(width: Width, value: u64) -> Option<Finish>
-    ensures { result ≡ finish_by width value }
+/// The exit status of a run by why it stopped.
+fn status_of(stop: Option<Stop>) -> u8
+    ensures { result ≡ stop_status stop }
 {
-    match width {
-        Width::B4 => finish_of_word((value & 0xffff_ffff) as u32),
-        Width::B1 | Width::B2 | Width::B8 => None,
+    match stop {
+        None => 5,
+        Some(Stop::Ended(why)) => status_of_end(why),
+        Some(Stop::Full) => 7,
+        Some(Stop::Unbuilt(_)) => 15,
     }
 }
 
-/// What a store of 4 bytes to the finisher means.
-fn finish_of_word(value: u32) -> Option<Finish>
-    ensures { result ≡ finish value }
+/// The exit status of a run that an event ended.
+fn status_of_end(why: Why) -> u8
+    ensures { result ≡ exit_status why }
 {
-    if value == 0x5555 {
-        Some(Finish::Off)
-    } else if value & 0xffff == 0x3333 {
-        Some(Finish::Failed((value >> 16) as u16))
-    } else {
-        None
+    match why {
+        Why::PowerOff | Why::Stopped => 0,
+        Why::Failed(_) => 1,
+        Why::Lost(_) | Why::DebugLost => 5,
+        Why::Steps => 6,
+        Why::Full => 7,
+        Why::ListenFailed => 10,
+        Why::CrewRefused => 11,
     }
+}
+
+/// Runs the image in a file on the flat machine, and keeps its journal in a file where one is named.
+pub fn run_flat<S: Store, O: Sink>(
+    alloc: Global,
+    name: &str,
+    steps: u32,
+    journal: Option<&str>,
+    store: &mut S,
+    out: &mut O,
+) -> Result<FlatRun, Refusal>
+    requires some { 1 ≤ steps }
+    requires few { steps ≤ 100_000_000 }
+    ensures gives { FlatGives name.now steps (option_map (λ file. file.now) journal.entry) (S.told store.old) (S.told store.new) (O.told out.old) (O.told out.new) result }
+    ensures asked { IsAskedBoth name.now (option_map (λ file. file.now) journal.entry) (S.told store.old) (S.told store.new) }
+{
+    let image = load_image(alloc, name, store)?;
+    let file = match journal {
+        Some(journal) => match store.create(journal) {
+            Ok(file) => Some(file),
+            Err(_) => return Err(Refusal::Unwritable),
+        },
+        None => None,
+    };
+    match run_image(alloc, &image, steps, out) {
+        Ok(ran) => {
+            let saved = save(&ran.journal, file);
+            Ok(FlatRun { ran, saved })
+        }
+        Err(_) => Err(Refusal::OutOfMemory),
+    }
+}
+
+/// The image in a file, of 1 to 1,048,576 bytes.
+pub fn load_image<S: Store>(alloc: Global, name: &str, store: &mut S) -> Result<Vec<u8>, Refusal>
+    ensures image { IfOk result (λ image. HasImage (S.told store.old) name.now image.items) }
+    ensures refused { IfErr result (λ refusal. IsNotLoaded name.now (S.told store.old) (S.told store.new) refusal) }
+    ensures asked { IsAsked name.now (S.told store.old) (S.told store.new) }
+{
+    let image = match store.load(alloc, name, FLAT_RAM_BYTES) {
+        Ok(image) => image,
+        Err(LoadFault::TooLong) => return Err(Refusal::Misfit),
+        Err(LoadFault::Failed) => return Err(Refusal::Unreadable),
+        Err(LoadFault::Memory) => return Err(Refusal::OutOfMemory),
+    };
+    if image.is_empty() {
+        return Err(Refusal::Misfit);
+    }
+    Ok(image)
+}
+
+/// The run of an image on the flat machine.
+fn run_image<O: Sink>(alloc: Global, image: &[u8], steps: u32, out: &mut O) -> Result<Ran, Memory>
+    requires some { 1 ≤ steps }
+    requires few { steps ≤ 100_000_000 }
+    requires fits { length image.now ≤ FLAT_RAM_BYTES }
+    ensures ran { IfOk result (λ ran. IsRun (flat_with steps) image.now ran (O.told out.old) (O.told out.new)) }
+    ensures unchanged { OnErr result (O.told out.new ≡ O.told out.old) }
+{
+    let mut machine = Machine::flat(alloc)?;
+    machine.steps = steps;
+    solo(alloc, &machine, image, out)
+}
+
+/// Puts a journal to the file that was created for it, if one was. The answer is false where that failed.
+fn save<K: Sink + Drop>(journal: &Journal, file: Option<K>) -> bool
+    ensures { SavedBy (option_map (K.told) file) journal.now result }
+{
+    let Some(mut file) = file else {
+        return true;
+    };
+    journal.write_file(&mut file).is_ok()
 }

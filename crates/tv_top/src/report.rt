@@ -1,35 +1,72 @@
 //! The line that goes to the error output.
 
-ghost use Rattle.std.specs.Prelude.{◌++◌, codes};
-ghost use Rattle.tv_top.specs.Texts.{IsSaid, bad_line, end_line, refusal_line};
+ghost use Rattle.std.specs.Prelude.{◌++◌, [], Some, codes};
+ghost use Rattle.tv_top.specs.Texts.{IsSaid, bad_line, end_line, refusal_line, replay_line, run_line, stop_line};
 
-use crate::STEPS;
-use crate::command::Refusal;
-use crate::output::put_all;
-use crate::run::End;
+use crate::flat::FlatRun;
+use crate::refusal::Refusal;
+use crate::replay::ReplayRefusal;
 use itoa::Buffer;
+use tv_base::Why;
+use tv_journal::Journal;
 use tv_out::Sink;
+use tv_runner::put_all;
+use tv_spec::Stop;
 
 /// Says that the words are no command line.
 pub fn say_bad_line<E: Sink>(err: &mut E)
     ensures { IsSaid bad_line (E.told err.old) (E.told err.new) }
 {
-    say(err, b"bad command line", b"");
+    say(err, b"bad command line", b"", b"\n");
 }
 
-/// Says how a run ended; one that was switched off says nothing.
-pub fn say_end<E: Sink>(err: &mut E, end: End)
-    ensures { IsSaid (end_line end) (E.told err.old) (E.told err.new) }
+/// Says what a run with a limit of `steps` events came to; one that was switched off says nothing.
+pub fn say_run<E: Sink>(err: &mut E, steps: u32, run: &FlatRun)
+    ensures { IsSaid (run_line steps run.now) (E.told err.old) (E.told err.new) }
 {
-    match end {
-        End::PowerOff => {}
-        End::Failed(code) => say(
+    if run.ran.lost || !run.saved {
+        say(err, b"cannot write", b"", b"\n");
+        return;
+    }
+    say_stop(err, steps, &run.ran.journal, run.ran.stop);
+}
+
+/// Says why a run stopped.
+fn say_stop<E: Sink>(err: &mut E, steps: u32, journal: &Journal, stop: Option<Stop>)
+    ensures { IsSaid (stop_line steps journal.now.entries stop) (E.told err.old) (E.told err.new) }
+{
+    match stop {
+        None => say(err, b"cannot write", b"", b"\n"),
+        Some(Stop::Ended(why)) => say_end(err, steps, why),
+        Some(Stop::Full) => say(
+            err,
+            b"journal full after ",
+            Buffer::new().format(journal.records()).as_bytes(),
+            b" records\n",
+        ),
+        Some(Stop::Unbuilt(pc)) => say_unbuilt(err, pc),
+    }
+}
+
+/// Says for which cause an event ended a run.
+fn say_end<E: Sink>(err: &mut E, steps: u32, why: Why)
+    ensures { IsSaid (end_line steps why) (E.told err.old) (E.told err.new) }
+{
+    match why {
+        Why::PowerOff | Why::Stopped => {}
+        Why::Failed(code) => say(
             err,
             b"guest failed with code ",
             Buffer::new().format(code).as_bytes(),
+            b"\n",
         ),
-        End::Steps => say(err, b"step limit ", Buffer::new().format(STEPS).as_bytes()),
-        End::Unbuilt(pc) => say_unbuilt(err, pc),
+        Why::Steps => say(
+            err,
+            b"step limit ",
+            Buffer::new().format(steps).as_bytes(),
+            b"\n",
+        ),
+        _ => say(err, b"cannot write", b"", b"\n"),
     }
 }
 
@@ -38,27 +75,51 @@ pub fn say_refusal<E: Sink>(err: &mut E, name: &str, refusal: Refusal)
     ensures { IsSaid (refusal_line name.now refusal) (E.told err.old) (E.told err.new) }
 {
     match refusal {
-        Refusal::Unreadable => say(err, b"cannot read ", name.as_bytes()),
-        Refusal::Unwritable => say(err, b"cannot write", b""),
-        Refusal::Misfit => say(err, b"image does not fit", b""),
-        Refusal::OutOfMemory => say(err, b"out of memory", b""),
+        Refusal::Unreadable => say(err, b"cannot read ", name.as_bytes(), b"\n"),
+        Refusal::Unwritable => say(err, b"cannot write", b"", b"\n"),
+        Refusal::Misfit => say(err, b"image does not fit", b"", b"\n"),
+        Refusal::OutOfMemory => say(err, b"out of memory", b"", b"\n"),
+    }
+}
+
+/// Says why a journal was not found to be a legal run.
+pub fn say_replay<E: Sink>(err: &mut E, image: &str, journal: &str, refusal: ReplayRefusal)
+    ensures { IsSaid (replay_line image.now journal.now refusal) (E.told err.old) (E.told err.new) }
+{
+    match refusal {
+        ReplayRefusal::Image(refusal) => say_refusal(err, image, refusal),
+        ReplayRefusal::Unreadable => say(err, b"cannot read ", journal.as_bytes(), b"\n"),
+        ReplayRefusal::Unwritable => say(err, b"cannot write", b"", b"\n"),
+        ReplayRefusal::OutOfMemory => say(err, b"out of memory", b"", b"\n"),
+        ReplayRefusal::NoJournal(at) => say(
+            err,
+            b"bad journal at byte ",
+            Buffer::new().format(at).as_bytes(),
+            b"\n",
+        ),
+        ReplayRefusal::Illegal(record) => say(
+            err,
+            b"illegal entry ",
+            Buffer::new().format(record).as_bytes(),
+            b"\n",
+        ),
     }
 }
 
 /// Says at which pc the run met what is not built.
 fn say_unbuilt<E: Sink>(err: &mut E, pc: u64)
-    ensures { IsSaid (end_line (End.Unbuilt pc)) (E.told err.old) (E.told err.new) }
+    ensures { IsSaid (stop_line 0 [] (Some (Stop.Unbuilt pc))) (E.told err.old) (E.told err.new) }
 {
     let mut digits = [0; 16];
     match hex::encode_to_slice(pc.to_be_bytes(), &mut digits) {
-        Ok(()) => say(err, b"not built at ", &digits),
+        Ok(()) => say(err, b"not built at ", &digits, b"\n"),
         Err(_) => unreachable!(),
     }
 }
 
-/// Puts `tv: `, the two parts of a text and a newline. A fault of the sink changes nothing else.
-fn say<E: Sink>(err: &mut E, text: &[u8], more: &[u8])
-    ensures { IsSaid (codes "tv: " ++ (text.now ++ (more.now ++ codes "\n"))) (E.told err.old) (E.told err.new) }
+/// Puts `tv: ` and the three parts of a text, of which the last has the newline. A fault of the sink changes nothing else.
+fn say<E: Sink>(err: &mut E, text: &[u8], more: &[u8], end: &[u8])
+    ensures { IsSaid (codes "tv: " ++ (text.now ++ (more.now ++ end.now))) (E.told err.old) (E.told err.new) }
 {
     if !put_all(err, b"tv: ") {
         return;
@@ -69,5 +130,5 @@ fn say<E: Sink>(err: &mut E, text: &[u8], more: &[u8])
     if !put_all(err, more) {
         return;
     }
-    let _ = put_all(err, b"\n");
+    let _ = put_all(err, end);
 }
