@@ -30,13 +30,13 @@ pub one-more : (harts : List HartState) (count : ℕ) → AreFirst harts count �
 one-more harts count first = record {
   count_is = omega (arith, length-append harts (first_hart count ∷ []), first.count_is);
   each = λ (k : ℕ). elim (cases_lt k (length harts)) [
-    inl before ↦ get_or_append_left harts (first_hart count ∷ []) (first_hart k) k before ∙ first.each k
+    | inl before ↦ get_or_append_left harts (first_hart count ∷ []) (first_hart k) k before ∙ first.each k
     | inr not_before ↦ elim (cases_lt (length harts) k) [
-        inl behind ↦ get_or-eq_default (harts ++ first_hart count ∷ []) (first_hart k) {n = k} (omega (arith, length-append harts (first_hart count ∷ [])))
-        | inr not_behind ↦
+      | inl behind ↦ get_or-eq_default (harts ++ first_hart count ∷ []) (first_hart k) {n = k} (omega (arith, length-append harts (first_hart count ∷ [])))
+      | inr not_behind ↦
           let here : length harts ≡ k = omega arith in
           get_or_push harts (first_hart count) (first_hart k) k here ∙ ap first_hart (sym first.count_is ∙ here)
-      ]
+    ]
   ];
   ready = ready-push harts (first_hart count) first.ready refl;
 }
@@ -61,7 +61,7 @@ first-guest machine image blank ram harts local loaded first blank_is loaded_is 
     let yes : loaded ≡ true = loaded_is ∙ image-inside (length blank) (length image) fits_blank in
     let done : OnTrue true (ram ≡ with_bytes blank ram_base image) = subst (λ (b : Bool). OnTrue b (ram ≡ with_bytes blank ram_base image)) yes written in
     let ram_is : local.ram ≡ with_image machine.ram image =
-        ap (λ (l : LocalState). l.ram) local_is ∙ done ∙ ap (λ (xs : List ℕ). with_bytes xs ram_base image) blank_is ∙ image_written machine.ram image in
+    ap (λ (l : LocalState). l.ram) local_is ∙ done ∙ ap (λ (xs : List ℕ). with_bytes xs ram_base image) blank_is ∙ image_written machine.ram image in
     record {
       setup = ap (λ (k : ℕ). let setup : Setup = record { harts = k; steps = machine.steps } in setup) first.count_is;
       state = same_state _ _ (all-first harts machine.harts first) ram_is refl refl refl refl;

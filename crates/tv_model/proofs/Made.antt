@@ -38,7 +38,7 @@ same_function f g same = λ i. λ k. same k i
 pub hart_put : (harts : List HartState) (n : ℕ) (hart : HartState) → n < length harts
     → ◌≡◌ {A = ℕ → HartState} (λ k. get_or (set harts n hart) k (first_hart k)) (update (λ k. get_or harts k (first_hart k)) n hart)
 hart_put harts n hart within = same_function _ _ (λ (k : ℕ). elim (eqb_tells k n) [
-  inl same ↦ rw same.0 (get_or-set_at harts n k hart (first_hart k) same.1 within)
+  | inl same ↦ rw same.0 (get_or-set_at harts n k hart (first_hart k) same.1 within)
   | inr other ↦ rw other.0 (get_or-set_other harts n k hart (first_hart k) other.1)
 ])
 
@@ -68,20 +68,22 @@ made_event harts ram time now events ticked steps n hart later place ready runni
     let old = seen harts ram time now events ticked steps in
     let same : get_or harts n (first_hart n) ≡ hart = get_or_default harts n (first_hart n) hart within ∙ sym at in
     let is : event_of (state_of old) n ≡ (did.Retired, later, place) =
-        ap (λ (h : HartState). stepped local_meaning h (record { ram = ram; shown = shown.Nothing })) same ∙ sym event in
-    (record {
-      can = record {
-        exists = within;
-        running = running;
-        ready = ready_at harts n (first_hart n) ready within;
-        carried = ap (λ (o : Outcome LocalState). o.0) is;
-      };
-      setup = ap (λ (k : ℕ). let setup : Setup = record { harts = k; steps = steps } in setup) (length-set harts n later);
-      state = same_state _ _
-          (hart_put harts n later within ∙ ap (λ (o : Outcome LocalState). update (λ k. get_or harts k (first_hart k)) n o.1) (sym is))
-          (ap (λ (o : Outcome LocalState). o.2.ram) (sym is)) refl
-          (ap (λ (o : Outcome LocalState). mode_by (end_at (eqb (events + 1) steps) (end_shown o.2.shown))) (sym is)) refl refl;
-    }, ap (λ (o : Outcome LocalState). o.2.shown) (sym is))
+    ap (λ (h : HartState). stepped local_meaning h (record { ram = ram; shown = shown.Nothing })) same ∙ sym event in (
+      record {
+        can = record {
+          exists = within;
+          running = running;
+          ready = ready_at harts n (first_hart n) ready within;
+          carried = ap (λ (o : Outcome LocalState). o.0) is;
+        };
+        setup = ap (λ (k : ℕ). let setup : Setup = record { harts = k; steps = steps } in setup) (length-set harts n later);
+        state = same_state _ _
+            (hart_put harts n later within ∙ ap (λ (o : Outcome LocalState). update (λ k. get_or harts k (first_hart k)) n o.1) (sym is))
+            (ap (λ (o : Outcome LocalState). o.2.ram) (sym is)) refl
+            (ap (λ (o : Outcome LocalState). mode_by (end_at (eqb (events + 1) steps) (end_shown o.2.shown))) (sym is)) refl refl;
+      },
+      ap (λ (o : Outcome LocalState). o.2.shown) (sym is),
+    )
 
 -- whether a run goes on
 abbrev pub runs : Mode → Bool
@@ -117,13 +119,13 @@ pub made_by : (harts : List HartState) (local place quiet : LocalState) (time : 
 made_by harts local place quiet time now next events ticked steps n number hart later result out ready nothing running within number_is at event retired shown_is quiet_is next_is =
     let local_is : local ≡ record { ram = local.ram; shown = shown.Nothing } = λ i. record { ram = local.ram; shown = nothing i } in
     let event2 : ◌≡◌ {A = Outcome LocalState} (did.Retired, later, place) (stepped local_meaning hart (record { ram = local.ram; shown = shown.Nothing })) =
-        ap (λ (d : Did). (let o : Outcome LocalState = (d, later, place) in o)) (sym retired) ∙ event ∙ ap (λ (l : LocalState). stepped local_meaning hart l) local_is in
+    ap (λ (d : Did). (let o : Outcome LocalState = (d, later, place) in o)) (sym retired) ∙ event ∙ ap (λ (l : LocalState). stepped local_meaning hart l) local_is in
     let at_n : hart ≡ get_or harts n hart = at ∙ ap (λ (k : ℕ). get_or harts k hart) number_is in
     let made_is = made_event harts local.ram time now events ticked steps n hart later place ready running (subst (λ (k : ℕ). k < length harts) number_is within) at_n event2 in
     let ram_is : place.ram ≡ quiet.ram = ap (λ (l : LocalState). l.ram) (sym quiet_is) in
     let next_same : mode_by (end_at (eqb (events + 1) steps) (end_shown place.shown)) ≡ next =
-        ap (λ (s : Shown). mode_by (end_at (eqb (events + 1) steps) (end_shown s))) (sym shown_is) ∙ sym next_is in
+    ap (λ (s : Shown). mode_by (end_at (eqb (events + 1) steps) (end_shown s))) (sym shown_is) ∙ sym next_is in
     let new_is : seen (set harts n later) place.ram time (mode_by (end_at (eqb (events + 1) steps) (end_shown place.shown))) (events + 1) false steps
-        ≡ seen (set harts number later) quiet.ram time next (events + 1) false steps =
-        λ i. seen (set harts (sym number_is i) later) (ram_is i) time (next_same i) (events + 1) false steps in
+    ≡ seen (set harts number later) quiet.ram time next (events + 1) false steps =
+    λ i. seen (set harts (sym number_is i) later) (ram_is i) time (next_same i) (events + 1) false steps in
     (subst (λ (g : GuestState). IsMade (seen harts local.ram time now events ticked steps) g (made (entry.Hart n))) new_is made_is.0, shown_is ∙ made_is.1)

@@ -12,7 +12,7 @@ use Rattle.tv_model.proofs.guest.Guest.hart_event.Goals as goal
 pub unreachable-requires : goal.unreachable-requires
 unreachable-requires c =
     let over : IsOver c.step.result =
-        local_over c.index_mut.result.now c.self.inside.local (c.step.result, c.step.new.self, c.step.new.place) c.step.ensures.event in
+    local_over c.index_mut.result.now c.self.inside.local (c.step.result, c.step.new.self, c.step.new.place) c.step.ensures.event in
     elim c.in-Held.is [ inl held ↦ subst IsOver held over | inr full ↦ subst IsOver full over ]
 
 pub invariant_of-self-2 : goal.invariant_of-self-2
