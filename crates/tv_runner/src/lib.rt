@@ -6,3 +6,6 @@ mod parts;
 mod run;
 
 pub use run::{Ran, solo};
+
+#[cfg(test)]
+mod tests;
