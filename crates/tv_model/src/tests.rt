@@ -136,6 +136,7 @@ fn journals_are_replayed(rt: HostRuntime) -> Result<(), Fail> {
         ),
     ];
     for (row, (image, file, want)) in rows.into_iter().enumerate() {
+        assert!(rt; image.len() <= 0x10_0000);
         let found = replay_file(rt.alloc(), image, file)?;
         assert_eq!(rt; found, want, "row {row}");
     }

@@ -7,3 +7,6 @@ mod run;
 
 pub use output::put_all;
 pub use run::{Ran, solo};
+
+#[cfg(test)]
+mod tests;

@@ -8,7 +8,7 @@ ghost use Rattle.tv_out.specs.Told.{appended, IsCut};
 use tv_base::PIECE_BYTES;
 use tv_out::Sink;
 
-/// Puts bytes in pieces; `false` where the sink failed. No byte is no put.
+/// Puts bytes in pieces of up to 4096; `false` where the sink failed. Where there is no byte, nothing is put.
 pub fn put_all<K: Sink>(sink: &mut K, bytes: &[u8]) -> bool
     ensures all { OnTrue result ((K.told sink.new).bytes ≡ appended (K.told sink.old).bytes bytes.now) }
     ensures failed { OnFalse result (Rose (K.told sink.old).faults (K.told sink.new).faults) }

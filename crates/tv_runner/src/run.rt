@@ -21,7 +21,7 @@ pub struct Ran {
     pub journal: Journal,
     /// Why it stopped; `None` where it was cut short since bytes went lost.
     pub stop: Option<Stop>,
-    /// Whether a put of its bytes failed. The run is cut short after that round.
+    /// Whether a put of its bytes failed. That was in its last round.
     pub lost: bool,
 }
 
@@ -50,9 +50,11 @@ fn rounds<O: Sink>(guest: &mut Guest, journal: &mut Journal, out: &mut O) -> (Op
     }
 }
 
-/// A run of a machine with an image of up to `ram` bytes, on one thread: rounds of up to 64 events of each hart and a
-/// tick, and the bytes at the debug port put after each round. The answer has the run's journal, and why it stopped; that
-/// an event ended it, the journal is full, or an instruction isn't built yet. It stops after at most `steps` events.
+/// Runs a machine with an image of up to `ram` bytes on one thread, in rounds: up to 64 events of each hart in the order
+/// of their numbers, then a tick of 64. After each round the bytes that it showed at the debug port are put.
+///
+/// The run stops where an event ends it, which comes after at most `steps` events, where an entry finds no room in the
+/// journal, and before an instruction that isn't built yet. A round whose bytes could not be put is its last.
 ///
 /// # Errors
 /// Want of memory. Nothing was put then.

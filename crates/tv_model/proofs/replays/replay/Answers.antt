@@ -6,7 +6,7 @@ use Rattle.tv_journal.specs.Journals.{IsOuterEnd}
 use Rattle.tv_model.specs.declared.replays.Replayed.TheVariants as replayed
 use Rattle.tv_model.specs.Replay.{ReplaysSo}
 use Rattle.tv_model.specs.Replaying.{HasLeft, closer, not_due}
-use Rattle.tv_model.proofs.Played.{IsPlayed, IsNext, played-first, played-due, played-record, next-found, next-none, left-next, entry-illegal, end-illegal, all-legal, counted}
+use Rattle.tv_model.proofs.Played.{IsPlayed, played-first, played-due, played-record, next-found, next-none, left-next, entry-illegal, end-illegal, all-legal, counted}
 use Rattle.tv_model.proofs.Stepping.{border-cause}
 use Rattle.tv_model.proofs.replays.replay.Goals as goal
 

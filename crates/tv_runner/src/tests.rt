@@ -1,0 +1,242 @@
+//! Whole runs over sinks in memory, with values worked out by hand.
+
+ghost use Rattle.std.specs.Prelude.{◌≡◌, ◌≤◌, IfOk};
+ghost use Rattle.tv_machine_file.specs.Valid.{IsValid};
+
+use super::{Ran, solo};
+use std::alloc::Global;
+use std::process::Abort;
+use std::test::Fail;
+use tv_base::{Memory, Why};
+use tv_fake::MemorySink;
+use tv_machine_file::Machine;
+use tv_spec::Stop;
+
+/// The image that puts `A` and switches the machine off.
+const HELLO: [u32; 7] = [
+    0x100002b7, 0x04100313, 0x00628023, 0x001002b7, 0x00005337, 0x55530313, 0x0062a023,
+];
+
+/// The image that puts `A` and then jumps to itself.
+const PUT_AND_LOOP: [u32; 4] = [0x100002b7, 0x04100313, 0x00628023, 0x0000006f];
+
+/// The journal file of two harts with 200 events: a turn of 64 for each, a tick of 64, a turn of 64, and 8 events.
+const TWO_HARTS: [u8; 38] = [
+    b'T', b'V', b'J', b'1', 0x01, 0, 64, 0, 0, 0, 0x01, 1, 64, 0, 0, 0, 0x0b, 64, 0, 0, 0, 0x01, 0,
+    64, 0, 0, 0, 0x01, 1, 8, 0, 0, 0, 0x00, 5, 0, 0, 0,
+];
+
+/// What a run has to go by.
+#[derive(Clone, Copy)]
+struct Given {
+    harts: u8,
+    /// Events at most.
+    steps: u32,
+    /// Room for records.
+    room: u32,
+    /// Whether the first put fails.
+    fails: bool,
+}
+
+/// One hart with so many events at most and ample room, over a sink that works.
+const fn steps(steps: u32) -> Given {
+    Given {
+        harts: 1,
+        steps,
+        room: 1000,
+        fails: false,
+    }
+}
+
+/// A machine of 1 MiB with so many harts, events and records.
+fn machine(alloc: Global, harts: u8, steps: u32, records: u32) -> Result<Machine, Memory>
+    requires harts { (1 ≤ harts) × (harts ≤ 8) }
+    requires steps { (1 ≤ steps) × (steps ≤ 1000) }
+    requires records { (1 ≤ records) × (records ≤ 1000) }
+    ensures { IfOk result (λ machine. (machine.ram ≡ 1_048_576) × IsValid machine) }
+{
+    let mut machine = Machine::flat(alloc)?;
+    machine.harts = harts;
+    machine.steps = steps;
+    machine.journal_entries = records;
+    Ok(machine)
+}
+
+/// A run of an image, and its output.
+fn run(
+    rt: &(impl AllocGlobal + Abort),
+    words: &[u32],
+    given: Given,
+) -> Result<(Ran, MemorySink), Fail> {
+    assert!(rt; given.harts >= 1 && given.harts <= 8);
+    assert!(rt; given.steps >= 1 && given.steps <= 1000);
+    assert!(rt; given.room >= 1 && given.room <= 1000);
+    let mut image = Vec::new(rt.alloc());
+    for word in words {
+        image.extend_from_slice(&word.to_le_bytes())?;
+    }
+    assert!(rt; image.len() <= 1_048_576);
+    let machine = machine(rt.alloc(), given.harts, given.steps, given.room)?;
+    let mut failing = Vec::new(rt.alloc());
+    if given.fails {
+        failing.push(0)?;
+    }
+    let mut out = MemorySink::new(rt.alloc(), 64, failing)?;
+    let ran = solo(rt.alloc(), &machine, &image, &mut out)?;
+    Ok((ran, out))
+}
+
+/// A cause in a word.
+fn why_text(why: Why) -> &'static str {
+    match why {
+        Why::PowerOff => "off",
+        Why::Steps => "steps",
+        Why::Full => "full",
+        Why::DebugLost => "lost",
+        _ => "other",
+    }
+}
+
+/// A stop in a word, and the pc that it tells, or 0.
+fn stop_text(stop: Option<Stop>) -> (&'static str, u64) {
+    match stop {
+        None => ("none", 0),
+        Some(Stop::Ended(why)) => (why_text(why), 0),
+        Some(Stop::Full) => ("full", 0),
+        Some(Stop::Unbuilt(pc)) => ("unbuilt", pc),
+    }
+}
+
+#[test]
+fn runs_stop_as_their_words_say(rt: HostRuntime) -> Result<(), Fail> {
+    // Each by its image, with why it stopped and the pc told, its output, and the number of its entries.
+    let rows: [(&[u32], Given, &str, u64, &str, u64); 9] = [
+        (&HELLO, steps(1000), "off", 0, "A", 7),
+        (&HELLO, steps(6), "steps", 0, "A", 6),
+        (&[0x0000006f], steps(10), "steps", 0, "", 10),
+        (&[0x0000006f], steps(100), "steps", 0, "", 101),
+        (&PUT_AND_LOOP, steps(100), "steps", 0, "A", 101),
+        (&[0x00000073], steps(1000), "unbuilt", 0x80000000, "", 0),
+        (
+            &[0x100002b7, 0x04100313, 0x00628023, 0x00000000],
+            steps(1000),
+            "unbuilt",
+            0x8000000c,
+            "A",
+            3,
+        ),
+        (
+            &HELLO,
+            Given {
+                room: 1,
+                ..steps(7)
+            },
+            "off",
+            0,
+            "A",
+            7,
+        ),
+        (
+            &HELLO,
+            Given {
+                harts: 2,
+                ..steps(1000)
+            },
+            "off",
+            0,
+            "A",
+            7,
+        ),
+    ];
+    for (words, given, stop, pc, text, entries) in rows {
+        let (ran, out) = run(&rt, words, given)?;
+        assert_eq!(rt; stop_text(ran.stop), (stop, pc));
+        assert_eq!(rt; out.as_slice(), text.as_bytes());
+        assert_eq!(rt; ran.journal.events(), entries);
+        assert!(rt; ran.journal.outer().is_none() && !ran.lost);
+    }
+    Ok(())
+}
+
+#[test]
+fn journal_has_turns_and_ticks(rt: HostRuntime) -> Result<(), Fail> {
+    let given = Given {
+        harts: 2,
+        ..steps(200)
+    };
+    let (ran, _) = run(&rt, &[0x0000006f], given)?;
+    let mut file = MemorySink::new(rt.alloc(), 64, Vec::new(rt.alloc()))?;
+    assert!(rt; ran.journal.write_file(&mut file).is_ok());
+    assert_eq!(rt; file.as_slice(), TWO_HARTS.as_slice());
+    Ok(())
+}
+
+#[test]
+fn runs_cut_short_say_why(rt: HostRuntime) -> Result<(), Fail> {
+    let lost = Given {
+        fails: true,
+        ..steps(1000)
+    };
+    // Each with why it stopped, the number of its entries, its outer end, and whether bytes went lost.
+    let rows: [(&[u32], Given, &str, u64, (u64, &str), bool); 6] = [
+        (
+            &[0x0000006f],
+            Given {
+                room: 1,
+                ..steps(64)
+            },
+            "steps",
+            64,
+            (0, "none"),
+            false,
+        ),
+        (
+            &[0x0000006f],
+            Given {
+                room: 1,
+                ..steps(65)
+            },
+            "full",
+            64,
+            (64, "full"),
+            false,
+        ),
+        (
+            &[0x0000006f],
+            Given {
+                room: 2,
+                ..steps(65)
+            },
+            "full",
+            65,
+            (65, "full"),
+            false,
+        ),
+        (
+            &[0x0000006f],
+            Given {
+                room: 3,
+                ..steps(65)
+            },
+            "steps",
+            66,
+            (0, "none"),
+            false,
+        ),
+        (&HELLO, lost, "off", 7, (0, "none"), true),
+        (&PUT_AND_LOOP, lost, "none", 65, (65, "lost"), true),
+    ];
+    for (words, given, stop, entries, outer, lost) in rows {
+        let (ran, out) = run(&rt, words, given)?;
+        let (stopped, _) = stop_text(ran.stop);
+        let end = match ran.journal.outer() {
+            Some((before, why)) => (before, why_text(why)),
+            None => (0, "none"),
+        };
+        assert_eq!(rt; stopped, stop);
+        assert_eq!(rt; ran.journal.events(), entries);
+        assert_eq!(rt; end, outer);
+        assert!(rt; ran.lost == lost && out.as_slice().is_empty());
+    }
+    Ok(())
+}
