@@ -1,5 +1,5 @@
 -- A journal that was put to a file.
-use Rattle.std.proofs.Common.{◌≡◌, Bool, true, false, is_ok, Result, Ok, Err, sym, ◌∙◌}
+use Rattle.std.proofs.Common.{◌≡◌, Bool, is_ok, Result, Ok, Err, sym, ◌∙◌}
 use Rattle.std.specs.Prelude.{⊤}
 use Rattle.std.proofs.lemmas.Bool.{false≢true}
 use Rattle.tv_journal.specs.Journals.{JournalState}

@@ -6,9 +6,6 @@ mod refusal;
 mod replay;
 mod report;
 
-
-
-
 ghost use Rattle.std.specs.Prelude.{◌≡◌, ◌≤◌, None};
 ghost use Rattle.std.specs.Option.{option_map};
 ghost use Rattle.tv_top.specs.Answers.{Answers, ServesFlat, ServesReplay, told_by};
@@ -74,11 +71,13 @@ pub fn plain<S: Store, O: Sink, E: Sink, R: Entropy>(
         result }
 {
     match command_of(words) {
-        Some(Command::Flat {
-            image,
-            steps,
-            journal,
-        }) => serve_flat(
+        Some(
+            Command::Flat {
+                image,
+                steps,
+                journal,
+            },
+        ) => serve_flat(
             alloc,
             image,
             steps,
@@ -153,3 +152,6 @@ fn serve_replay<S: Store, O: Sink, E: Sink>(
         }
     }
 }
+
+#[cfg(test)]
+mod tests;

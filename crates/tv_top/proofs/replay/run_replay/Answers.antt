@@ -1,5 +1,3 @@
-use Rattle.tv_machine_file.specs.Machines.{flat_machine}
-use Rattle.tv_model.specs.Replay.{IsLegalWith}
 use Rattle.tv_top.proofs.Replays.{both-there, legal-gives}
 use Rattle.tv_top.proofs.replay.run_replay.Goals as goal
 

@@ -1,0 +1,275 @@
+//! Whole commands over objects in memory, with values worked out by hand.
+
+use super::*;
+use std::process::Abort;
+use std::test::Fail;
+use tv_fake::{MemoryEntropy, MemorySink, MemoryStore, Named, Objects};
+
+/// The image that prints `A` and switches off.
+const HELLO: [u8; 28] = [
+    0xb7, 0x02, 0x00, 0x10, 0x13, 0x03, 0x10, 0x04, 0x23, 0x80, 0x62, 0x00, 0xb7, 0x02, 0x10, 0x00,
+    0x37, 0x53, 0x00, 0x00, 0x13, 0x03, 0x53, 0x55, 0x23, 0xa0, 0x62, 0x00,
+];
+
+/// The journal's file of that image: seven events of hart 0.
+const HELLO_JOURNAL: [u8; 15] = [
+    b'T', b'V', b'J', b'1', 0x01, 0, 7, 0, 0, 0, 0x00, 1, 0, 0, 0,
+];
+
+/// What a command answered: its status, what it put, and the file of the journal that it left.
+#[derive(Drop)]
+struct Answer {
+    status: u8,
+    out: MemorySink,
+    err: MemorySink,
+    journal: Option<MemorySink>,
+}
+
+/// A list of numbers.
+fn numbers(rt: &impl AllocGlobal, numbers: &[u64]) -> Result<Vec<u64>, Fail> {
+    Ok(Vec::from_slice(rt.alloc(), numbers)?)
+}
+
+/// A store of these files, of which the calls with these numbers fail. The file `journal` that it can create has room for so
+/// many bytes.
+fn files(
+    rt: &impl AllocGlobal,
+    files: &[(&str, &[u8])],
+    room: usize,
+    failing: &[u64],
+) -> Result<MemoryStore, Fail> {
+    let mut objects = Objects::new(rt.alloc());
+    for (name, bytes) in files {
+        let name = String::from_str(rt.alloc(), name)?;
+        objects
+            .files
+            .push(Named::new(name, Vec::from_slice(rt.alloc(), bytes)?))?;
+    }
+    let name = String::from_str(rt.alloc(), "journal")?;
+    objects.sinks.push(Named::new(name, sink(rt, room, &[])?))?;
+    let failing = numbers(rt, failing)?;
+    Ok(MemoryStore::new(rt.alloc(), Vec::new(rt.alloc()), objects, failing)?)
+}
+
+/// A sink with room for so many bytes, of which the puts with these numbers fail.
+fn sink(rt: &impl AllocGlobal, room: usize, failing: &[u64]) -> Result<MemorySink, Fail> {
+    Ok(MemorySink::new(rt.alloc(), room, numbers(rt, failing)?)?)
+}
+
+/// Serves words over a store and an output.
+fn serve(
+    rt: &impl AllocGlobal,
+    words: &[&str],
+    store: MemoryStore,
+    out: MemorySink,
+) -> Result<Answer, Fail> {
+    let mut texts = Vec::new(rt.alloc());
+    for word in words {
+        texts.push(String::from_str(rt.alloc(), word)?)?;
+    }
+    let mut outside = PlainOutside {
+        store,
+        out,
+        err: sink(rt, 64, &[])?,
+        random: MemoryEntropy::new(Vec::new(rt.alloc()), Vec::new(rt.alloc())),
+    };
+    let ended = plain(rt.alloc(), &texts, &mut outside);
+    let PlainOutside {
+        store: _,
+        out,
+        err,
+        random: _,
+    } = outside;
+    let journal = match &ended.journal {
+        Some(journal) => {
+            let mut file = sink(rt, 64, &[])?;
+            journal.write_file(&mut file)?;
+            Some(file)
+        }
+        None => None,
+    };
+    Ok(Answer {
+        status: ended.status,
+        out,
+        err,
+        journal,
+    })
+}
+
+/// Compares an answer.
+fn expect(rt: &impl Abort, answer: &Answer, status: u8, out: &str, err: &str) {
+    assert_eq!(rt; answer.status, status, "{err}");
+    assert_eq!(rt; answer.out.as_slice(), out.as_bytes());
+    assert_eq!(rt; answer.err.as_slice(), err.as_bytes());
+}
+
+/// Runs `flat image` on these bytes.
+fn run(rt: &impl AllocGlobal, image: &[u8]) -> Result<Answer, Fail> {
+    let store = files(rt, &[("image", image)], 0, &[])?;
+    serve(rt, &["flat", "image"], store, sink(rt, 64, &[])?)
+}
+
+#[test]
+fn images_end_as_their_words_say(rt: HostRuntime) -> Result<(), Fail> {
+    // Each image by its words, with the status, the output and the line.
+    let rows: [(&[u32], u8, &str, &str); 9] = [
+        (
+            &[
+                0x100002b7, 0x04100313, 0x00628023, 0x001002b7, 0x00005337, 0x55530313, 0x0062a023,
+            ],
+            0,
+            "A",
+            "",
+        ),
+        (
+            &[0x001002b7, 0x00073337, 0x33330313, 0x0062a023],
+            1,
+            "",
+            "tv: guest failed with code 7\n",
+        ),
+        (
+            &[0x001002b7, 0x00003337, 0x33330313, 0x0062a023],
+            1,
+            "",
+            "tv: guest failed with code 0\n",
+        ),
+        (&[0x0000006f], 6, "", "tv: step limit 1000000\n"),
+        (&[0x00000073], 15, "", "tv: not built at 0000000080000000\n"),
+        (&[0x00002283], 15, "", "tv: not built at 0000000080000000\n"),
+        // A load of 4 bytes at 0x80000002, which is not aligned.
+        (
+            &[0x00000297, 0x0022a303],
+            15,
+            "",
+            "tv: not built at 0000000080000004\n",
+        ),
+        // A jump to 0x80000006, which is not aligned.
+        (
+            &[0x00000013, 0x002000ef],
+            15,
+            "",
+            "tv: not built at 0000000080000004\n",
+        ),
+        // `A` is put, and then the word 0 has no row.
+        (
+            &[0x100002b7, 0x04100313, 0x00628023, 0x00000000],
+            15,
+            "A",
+            "tv: not built at 000000008000000c\n",
+        ),
+    ];
+    for (words, status, out, line) in rows {
+        let mut image = Vec::new(rt.alloc());
+        for word in words {
+            image.extend_from_slice(&word.to_le_bytes())?;
+        }
+        expect(&rt, &run(&rt, &image)?, status, out, line);
+    }
+    Ok(())
+}
+
+#[test]
+fn images_fill_memory_at_most(rt: HostRuntime) -> Result<(), Fail> {
+    for (bytes, status, out, line) in [
+        (0, 8, "", "tv: image does not fit\n"),
+        (1_048_576, 0, "A", ""),
+        (1_048_577, 8, "", "tv: image does not fit\n"),
+    ] {
+        let mut image = Vec::from_slice(rt.alloc(), &HELLO)?;
+        image.resize(bytes, 0)?;
+        expect(&rt, &run(&rt, &image)?, status, out, line);
+    }
+    Ok(())
+}
+
+#[test]
+fn words_that_are_no_command_line_are_refused(rt: HostRuntime) -> Result<(), Fail> {
+    let rows: [&[&str]; 5] = [
+        &[],
+        &["flat", ""],
+        &["flat", "image", "--steps", "0"],
+        &["replay", "image", "journal"],
+        &["run", "image"],
+    ];
+    for words in rows {
+        let store = files(&rt, &[("image", &HELLO)], 64, &[])?;
+        let answer = serve(&rt, words, store, sink(&rt, 64, &[])?)?;
+        expect(&rt, &answer, 2, "", "tv: bad command line\n");
+        assert!(rt; answer.journal.is_none());
+    }
+    Ok(())
+}
+
+#[test]
+fn faults_outside_have_their_statuses(rt: HostRuntime) -> Result<(), Fail> {
+    // Each by the image's name, the calls of the store that fail, the puts of the output that fail, the room of the
+    // journal's file, and whether a run began.
+    let rows: [(&str, &[u64], &[u64], usize, u8, &str, &str, bool); 6] = [
+        (
+            "image",
+            &[0],
+            &[],
+            64,
+            4,
+            "",
+            "tv: cannot read image\n",
+            false,
+        ),
+        ("-", &[], &[], 64, 4, "", "tv: cannot read -\n", false),
+        ("image", &[1], &[], 64, 5, "", "tv: cannot write\n", false),
+        ("image", &[], &[0], 64, 5, "", "tv: cannot write\n", true),
+        ("image", &[], &[], 14, 5, "A", "tv: cannot write\n", true),
+        ("image", &[], &[1], 15, 0, "A", "", true),
+    ];
+    for (name, calls, puts, room, status, out, line, began) in rows {
+        let store = files(&rt, &[("image", &HELLO)], room, calls)?;
+        let words = ["flat", "--journal", "journal", name];
+        let answer = serve(&rt, &words, store, sink(&rt, 64, puts)?)?;
+        expect(&rt, &answer, status, out, line);
+        assert_eq!(rt; answer.journal.is_some(), began);
+    }
+    Ok(())
+}
+
+#[test]
+fn journals_are_left_and_replayed(rt: HostRuntime) -> Result<(), Fail> {
+    let answer = run(&rt, &HELLO)?;
+    match &answer.journal {
+        Some(file) => assert_eq!(rt; file.as_slice(), HELLO_JOURNAL.as_slice()),
+        None => panic!(rt; "no journal"),
+    }
+    // Each by the count of its record, how many bytes of its file there are, and what the replay answers.
+    let rows: [(u8, usize, u8, &str, &str); 5] = [
+        (7, 15, 0, "legal: 1 records, 7 events, status 0\n", ""),
+        (6, 15, 0, "legal: 1 records, 6 events, status open\n", ""),
+        (8, 15, 14, "", "tv: illegal entry 0\n"),
+        (7, 14, 14, "", "tv: bad journal at byte 14\n"),
+        (0, 15, 14, "", "tv: bad journal at byte 9\n"),
+    ];
+    for (count, bytes, status, out, line) in rows {
+        let mut file = HELLO_JOURNAL;
+        file[6] = count;
+        let (held, _) = file.as_slice().split_at(bytes.min(file.len()));
+        let given: &[(&str, &[u8])] = &[("image", &HELLO), ("journal", held)];
+        let store = files(&rt, given, 0, &[])?;
+        let words = ["replay", "image", "--flat", "journal"];
+        let answer = serve(&rt, &words, store, sink(&rt, 64, &[])?)?;
+        expect(&rt, &answer, status, out, line);
+    }
+    Ok(())
+}
+
+#[test]
+fn runs_stop_at_their_limit(rt: HostRuntime) -> Result<(), Fail> {
+    let store = files(&rt, &[("image", &[0x6f, 0, 0, 0])], 64, &[])?;
+    let words = ["flat", "--steps=10", "image", "--journal=journal"];
+    let answer = serve(&rt, &words, store, sink(&rt, 64, &[])?)?;
+    expect(&rt, &answer, 6, "", "tv: step limit 10\n");
+    let mut file = HELLO_JOURNAL;
+    file[6] = 10;
+    match &answer.journal {
+        Some(journal) => assert_eq!(rt; journal.as_slice(), file.as_slice()),
+        None => panic!(rt; "no journal"),
+    }
+    Ok(())
+}
