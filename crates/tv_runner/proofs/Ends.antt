@@ -1,7 +1,6 @@
 -- From rounds to the run of a machine with an image.
-use Rattle.std.proofs.Common.{◌≡◌, ◌≢◌, ℕ, suc, ◌≤◌, List, [], ◌∷◌, length, map, Option, Some, None, Bool, true, false, refl, ap, sym, ◌∙◌, subst, arith}
+use Rattle.std.proofs.Common.{◌≡◌, ◌≢◌, ℕ, suc, ◌≤◌, List, [], ◌∷◌, length, map, Option, Some, None, Bool, true, refl, ap, sym, ◌∙◌, subst, arith}
 use Rattle.std.proofs.Math.Seq.{take-length, drop-length}
-use Rattle.std.specs.Prelude.{IfNone}
 use Rattle.std.specs.Option.{is_some}
 use Rattle.std.proofs.lemmas.Bool.{false≢true}
 use Rattle.tv_base.specs.declared.Why.{Why}
@@ -15,15 +14,17 @@ use Rattle.tv_out.specs.Told.{ToldSink}
 use Rattle.tv_spec.specs.declared.Mode.TheVariants as mode
 use Rattle.tv_spec.specs.declared.Stop.{Stop}
 use Rattle.tv_spec.specs.declared.Stop.TheVariants as stop
-use Rattle.tv_spec.specs.Legal.{after, IsLegalRun}
+use Rattle.tv_spec.specs.Legal.{after, IsLegalRun, with_outer}
 use Rattle.tv_spec.specs.Setup.{Setup, setup_of}
 use Rattle.tv_spec.specs.SoFar.{IsSoFar}
 use Rattle.tv_spec.specs.Solo.{Solo, Going, rounds, first_solo, solo_rounds, solo_run}
 use Rattle.tv_spec.specs.State.{first_state}
 use Rattle.tv_spec.specs.Step.{Move, made, ended, CanEnd}
 use Rattle.tv_spec.proofs.Moves.{legal-append}
-use Rattle.tv_runner.specs.Parts.{Held, solo_at}
-use Rattle.tv_runner.specs.Runs.{AreRounds, IsRun, outer_by}
+use Rattle.tv_spec.proofs.SoFar.{cause-append}
+use Rattle.tv_spec.specs.Shows.{cause_of_end, cause_in, or_else}
+use Rattle.tv_runner.specs.Parts.{Held, solo_at, StopsIn}
+use Rattle.tv_runner.specs.Runs.{AreRounds, IsRun, outer_by, cause_by}
 use Rattle.tv_runner.proofs.Rounds.{rounds-stay}
 
 -- the run of a machine with an image begins with a guest as it is made and an empty journal
@@ -44,13 +45,13 @@ rounds-first machine image guest journal n first empty room =
 
 -- nothing was done yet
 pub so_far-first : (machine : Machine) (image : List ℕ) → IsSoFar (setup_of machine) (first_state machine image) (first_solo machine image)
-so_far-first machine image = record { legal = tt; state_is = refl; bytes_are = refl }
+so_far-first machine image = record { legal = tt; state_is = refl; bytes_are = refl; cause_is = refl }
 
 -- all of it where it stopped
-pub run-whole : (machine : Machine) (image : List ℕ) (n : ℕ) (solo : Solo) (stopped : Option Stop) (lost : Bool) → n ≤ machine.steps → ◌≡◌ {A = Going} (solo_rounds machine image n) (solo, stopped)
-    → IfNone stopped (lost ≡ true) → lost ≡ false → ◌≡◌ {A = Going} (solo_run machine image) (solo, stopped)
-run-whole machine image n solo None lost few is lost_is went = absurd (false≢true (sym went ∙ lost_is))
-run-whole machine image n solo (Some stopped) lost few is lost_is went = rounds-stay (setup_of machine) machine.journal_entries n machine.steps (first_solo machine image) solo stopped few is
+pub run-whole : (machine : Machine) (image : List ℕ) (n : ℕ) (solo : Solo) (stopped : Option Stop) → n ≤ machine.steps → ◌≡◌ {A = Going} (solo_rounds machine image n) (solo, stopped)
+    → is_some stopped ≡ true → ◌≡◌ {A = Going} (solo_run machine image) (solo, stopped)
+run-whole machine image n solo None few is some = absurd (false≢true some)
+run-whole machine image n solo (Some stopped) few is some = rounds-stay (setup_of machine) machine.journal_entries n machine.steps (first_solo machine image) solo stopped few is
 
 -- an outer end after all entries
 pub legal-end : (machine : Machine) (image : List ℕ) (solo : Solo) (cause : Why) → IsSoFar (setup_of machine) (first_state machine image) solo → solo.state.mode ≡ mode.Running → cause_byte cause ≢ None
@@ -64,11 +65,29 @@ legal-end machine image solo cause so_far runs outer =
     }
 
 pub legal-run : (machine : Machine) (image : List ℕ) (solo : Solo) (stopped : Option Stop) → IsSoFar (setup_of machine) (first_state machine image) solo
-    → IfNone stopped (solo.state.mode ≡ mode.Running) → (stopped ≡ Some stop.Full → solo.state.mode ≡ mode.Running) → IsLegalRun machine image solo.entries (outer_by solo.entries stopped)
-legal-run machine image solo None so_far runs full = legal-end machine image solo why.DebugLost so_far runs (λ is. false≢true (sym (ap is_some is)))
-legal-run machine image solo (Some stop.Full) so_far runs full = legal-end machine image solo why.Full so_far (full refl) (λ is. false≢true (sym (ap is_some is)))
-legal-run machine image solo (Some (stop.Ended cause)) so_far runs full = record { place = tt; legal = so_far.legal }
-legal-run machine image solo (Some (stop.Unbuilt pc)) so_far runs full = record { place = tt; legal = so_far.legal }
+    → StopsIn stopped solo.state.mode → IsLegalRun machine image solo.entries (outer_by solo.entries stopped)
+legal-run machine image solo None so_far mode_is = legal-end machine image solo why.DebugLost so_far mode_is (λ is. false≢true (sym (ap is_some is)))
+legal-run machine image solo (Some stop.Full) so_far mode_is = legal-end machine image solo why.Full so_far mode_is (λ is. false≢true (sym (ap is_some is)))
+legal-run machine image solo (Some (stop.Ended cause)) so_far mode_is = record { place = tt; legal = so_far.legal }
+legal-run machine image solo (Some (stop.Unbuilt pc)) so_far mode_is = record { place = tt; legal = so_far.legal }
+
+-- an outer end after all entries is the cause
+pub cause-of-outer : (machine : Machine) (image : List ℕ) (solo : Solo) (cause : Why) → IsSoFar (setup_of machine) (first_state machine image) solo → solo.state.mode ≡ mode.Running
+    → cause_of_end (setup_of machine) (first_state machine image) (with_outer solo.entries (Some (length solo.entries, cause))) ≡ Some cause
+cause-of-outer machine image solo cause so_far runs =
+    let moves : List Move = map made solo.entries in
+    let none : cause_of_end (setup_of machine) (first_state machine image) moves ≡ None = sym so_far.cause_is ∙ ap cause_in runs in
+    rw (take-length solo.entries, drop-length solo.entries)
+    (cause-append (setup_of machine) (first_state machine image) moves (ended cause ∷ [])
+    ∙ ap (λ found. or_else found (Some cause)) none)
+
+pub run-cause : (machine : Machine) (image : List ℕ) (solo : Solo) (stopped : Option Stop) → IsSoFar (setup_of machine) (first_state machine image) solo
+    → StopsIn stopped solo.state.mode
+    → cause_of_end (setup_of machine) (first_state machine image) (with_outer solo.entries (outer_by solo.entries stopped)) ≡ cause_by stopped
+run-cause machine image solo None so_far mode_is = cause-of-outer machine image solo why.DebugLost so_far mode_is
+run-cause machine image solo (Some stop.Full) so_far mode_is = cause-of-outer machine image solo why.Full so_far mode_is
+run-cause machine image solo (Some (stop.Ended cause)) so_far mode_is = sym so_far.cause_is ∙ ap cause_in mode_is
+run-cause machine image solo (Some (stop.Unbuilt pc)) so_far mode_is = sym so_far.cause_is ∙ ap cause_in mode_is
 
 pub run-of : (machine : Machine) (image : List ℕ) (guest later : GuestState) (journal kept closed : JournalState) (stopped : Option Stop) (lost : Bool) (told now : ToldSink)
     → IsFirst guest machine image → journal.entries ≡ [] → journal.record_room ≡ machine.journal_entries
@@ -92,11 +111,12 @@ run-of machine image guest later journal kept closed stopped lost told now first
       solo = solo;
       before = sym (rounds-first machine image guest journal are.earlier first empty room) ∙ sym (are.before.made []);
       rounds = rounds_are;
-      whole = run-whole machine image (suc are.earlier) solo stopped lost (subst (λ (setup : Setup). suc are.earlier ≤ setup.steps) first.setup are.few) rounds_are are.stopped;
+      whole = run-whole machine image (suc are.earlier) solo stopped (subst (λ (setup : Setup). suc are.earlier ≤ setup.steps) first.setup are.few) rounds_are;
       stopped = are.stopped;
       entries = ap (λ (j : JournalState). j.entries) closed_is;
       outer = ap (λ (j : JournalState). j.outer) closed_is;
-      legal = rw closed_is (legal-run machine image solo stopped so_far are.part.runs are.part.full);
+      legal = rw closed_is (legal-run machine image solo stopped so_far are.part.mode_is);
       bytes = so_far.bytes_are;
+      cause = rw closed_is (run-cause machine image solo stopped so_far are.part.mode_is);
       put = are.put;
     }

@@ -1,7 +1,5 @@
 -- An event of the engine is that of the schedule.
-use Rattle.std.proofs.Common.{◌≡◌, ℕ, Bool, true, false, List, [], ◌∷◌, ◌++◌, Option, Some, None, refl, ap, sym, ◌∙◌, subst, append_assoc, append-nil, arith}
-use Rattle.std.specs.Prelude.{IfNone}
-use Rattle.std.proofs.lemmas.Bool.{false≢true}
+use Rattle.std.proofs.Common.{◌≡◌, ℕ, Bool, true, false, List, [], ◌∷◌, ◌++◌, Option, None, refl, ap, sym, ◌∙◌, subst, append_assoc, append-nil, arith}
 use Rattle.tv_hart.specs.declared.Did.TheVariants as did
 use Rattle.tv_journal.specs.declared.Entry.TheVariants as entry
 use Rattle.tv_journal.specs.Journals.{JournalState, has_room}
@@ -11,27 +9,18 @@ use Rattle.tv_spec.specs.declared.Mode.{Mode}
 use Rattle.tv_spec.specs.declared.Mode.TheVariants as mode
 use Rattle.tv_spec.specs.declared.Shown.{Shown}
 use Rattle.tv_spec.specs.declared.Stop.{Stop}
-use Rattle.tv_spec.specs.declared.Stop.TheVariants as stop
 use Rattle.tv_spec.specs.Shows.{byte_shown}
 use Rattle.tv_spec.specs.SoFar.{IsSoFar}
 use Rattle.tv_spec.specs.Solo.{makes, stopped_by, solo_event, solo_tick}
 use Rattle.tv_spec.specs.State.{State}
 use Rattle.tv_spec.specs.Step.{made, done, event_of}
 use Rattle.tv_spec.proofs.SoFar.{so_far-more}
-use Rattle.tv_runner.specs.Parts.{Held, solo_at, IsPart}
+use Rattle.tv_runner.specs.Parts.{Held, solo_at, IsPart, StopsIn}
 
--- a run that does not stop goes on
-pub runs-on : (now : Mode) → IfNone (stopped_by now) (now ≡ mode.Running)
-runs-on mode.Running = refl
-runs-on (mode.Ending cause) = tt
-
-abbrev pub is_full : Option Stop → Bool
-is_full (Some stop.Full) = true
-is_full _ = false
-
-pub not-full : (now : Mode) → stopped_by now ≡ Some stop.Full → ⊥
-not-full mode.Running is = false≢true (ap is_full is)
-not-full (mode.Ending cause) is = false≢true (ap is_full is)
+-- a run stops in the mode that stops it
+pub stops-in : (now : Mode) → StopsIn (stopped_by now) now
+stops-in mode.Running = refl
+stops-in (mode.Ending cause) = refl
 
 -- the run so far with the event is the one that the schedule makes
 pub event-made : (g later : GuestState) (journal kept : JournalState) (bytes shown_bytes : List ℕ) (hart : ℕ) (shown : Shown) (before : List ℕ)
@@ -66,8 +55,7 @@ event-part g later journal kept bytes shown_bytes hart shown result is shown_is 
       setup = is.setup;
       room = ap (λ (j : JournalState). j.record_room) kept_is;
       outer = ap (λ (j : JournalState). j.outer) kept_is;
-      runs = rw result_is (runs-on later.mode);
-      full = λ full_is. absurd (not-full later.mode (sym result_is ∙ full_is));
+      mode_is = rw result_is (stops-in later.mode);
     }
 
 -- and so is a tick
@@ -98,8 +86,7 @@ tick-part g later journal kept bytes is room kept_is =
       setup = is.setup;
       room = ap (λ (j : JournalState). j.record_room) kept_is;
       outer = ap (λ (j : JournalState). j.outer) kept_is;
-      runs = ap (λ (s : State). s.mode) is.state ∙ is.can.running;
-      full = λ full_is. absurd (false≢true (ap is_full full_is));
+      mode_is = ap (λ (s : State). s.mode) is.state ∙ is.can.running;
     }
 
 -- where a tick may stand, it is made

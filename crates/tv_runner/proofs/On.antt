@@ -6,9 +6,7 @@ use Rattle.tv_spec.specs.SoFar.{IsSoFar}
 use Rattle.tv_spec.specs.Setup.{Setup}
 use Rattle.tv_spec.specs.Solo.{Solo, Going, onward, solo_event, turn, turns}
 use Rattle.tv_spec.specs.State.{State}
-use Rattle.std.proofs.lemmas.Bool.{false≢true}
 use Rattle.tv_runner.specs.Parts.{Held, solo_at, IsPart}
-use Rattle.tv_runner.proofs.Events.{is_full}
 
 -- parts were carried out, the run goes on, and the rest makes of it what the whole makes
 pub record IsOn (whole rest : Solo → Going) (old now : Held) : Type 0 where
@@ -36,7 +34,7 @@ on-part whole rest next part old now new on split is = record {
   setup = is.setup ∙ on.setup;
   room = is.room ∙ on.room;
   outer = is.outer ∙ on.outer;
-  runs = is.runs;
+  runs = is.mode_is;
 }
 
 pub on-stop : (whole rest next part : Solo → Going) (old now new : Held) (stopped : Stop) → IsOn whole rest old now → ((solo : Solo) → rest solo ≡ onward next (part solo)) → IsPart part now new (Some stopped) → IsPart whole old new (Some stopped)
@@ -46,8 +44,7 @@ on-stop whole rest next part old now new stopped on split is = record {
   setup = is.setup ∙ on.setup;
   room = is.room ∙ on.room;
   outer = is.outer ∙ on.outer;
-  runs = tt;
-  full = is.full;
+  mode_is = is.mode_is;
 }
 
 pub on-end : (whole rest : Solo → Going) (old now : Held) → IsOn whole rest old now → ((solo : Solo) → rest solo ≡ (solo, None)) → IsPart whole old now None
@@ -57,8 +54,7 @@ on-end whole rest old now on over = record {
   setup = on.setup;
   room = on.room;
   outer = on.outer;
-  runs = on.runs;
-  full = λ is. absurd (false≢true (ap is_full is));
+  mode_is = on.runs;
 }
 
 -- a turn with an event left
@@ -95,8 +91,7 @@ part-twice first second old now new result one two = record {
   setup = two.setup ∙ one.setup;
   room = two.room ∙ one.room;
   outer = two.outer ∙ one.outer;
-  runs = two.runs;
-  full = two.full;
+  mode_is = two.mode_is;
 }
 
 -- and one that stopped before the other
@@ -108,8 +103,7 @@ part-alone first second old new stopped one = record {
   setup = one.setup;
   room = one.room;
   outer = one.outer;
-  runs = tt;
-  full = one.full;
+  mode_is = one.mode_is;
 }
 
 -- below the limit before and after

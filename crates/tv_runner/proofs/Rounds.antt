@@ -17,7 +17,6 @@ use Rattle.tv_spec.specs.State.{State}
 use Rattle.tv_runner.specs.Parts.{Held, solo_at, IsPart, IsRoundWithin}
 use Rattle.tv_runner.specs.Runs.{IsPut, AreRounds}
 use Rattle.std.proofs.lemmas.Bool.{false≢true}
-use Rattle.tv_runner.proofs.Events.{is_full}
 use Rattle.tv_runner.proofs.On.{part-twice, limit-on}
 
 pub onward-twice : (whole first second : Solo → Going) (g : Going) → ((solo : Solo) → whole solo ≡ onward second (first solo)) → onward whole g ≡ onward second (onward first g)
@@ -65,8 +64,7 @@ part-same one two old new result same is = record {
   setup = is.setup;
   room = is.room;
   outer = is.outer;
-  runs = is.runs;
-  full = is.full;
+  mode_is = is.mode_is;
 }
 
 -- a part whose bytes come after others
@@ -88,8 +86,7 @@ part-later part g later journal kept said bytes result is =
       setup = is.setup;
       room = is.room;
       outer = is.outer;
-      runs = is.runs;
-      full = is.full;
+      mode_is = is.mode_is;
     }
 
 -- so many rounds were carried out, none of them stopped the run, and their bytes went out
@@ -176,8 +173,7 @@ at-start old now runs new limit empty = record {
     setup = refl;
     room = refl;
     outer = refl;
-    runs = runs;
-    full = λ is. absurd (false≢true (ap is_full is));
+    mode_is = runs;
   };
   few = omega (arith, new);
   limit = limit;

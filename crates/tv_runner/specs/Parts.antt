@@ -3,6 +3,7 @@ use Rattle.std.specs.Prelude.{◌≡◌, ℕ, ◌+◌, ◌*◌, ◌<◌, ◌≤�
 use Rattle.tv_journal.specs.Journals.{JournalState}
 use Rattle.tv_model.specs.Guest.{state_of}
 use Rattle.tv_model.specs.GuestState.{GuestState}
+use Rattle.tv_spec.specs.declared.Mode.{Mode}
 use Rattle.tv_spec.specs.declared.Mode.TheVariants as mode
 use Rattle.tv_spec.specs.declared.Stop.{Stop}
 use Rattle.tv_spec.specs.declared.Stop.TheVariants as stop
@@ -20,6 +21,11 @@ pub record Held : Type 0 where
 abbrev pub solo_at : Held → List ℕ → Solo
 solo_at held before = record { state = state_of held.guest; entries = held.journal.entries; bytes = before ++ held.bytes }
 
+-- the mode in which a run stops, or goes on
+abbrev pub StopsIn : Option Stop → Mode → Type 0
+StopsIn (Some (stop.Ended cause)) now = now ≡ mode.Ending cause
+StopsIn _ now = now ≡ mode.Running
+
 -- a part of the schedule was carried out, and it came to this: whatever was put before
 pub record IsPart (part : Solo → Going) (old new : Held) (result : Option Stop) : Type 0 where
   pub made : (before : List ℕ) → ◌≡◌ {A = Going} (solo_at new before, result) (part (solo_at old before))
@@ -27,8 +33,7 @@ pub record IsPart (part : Solo → Going) (old new : Held) (result : Option Stop
   pub setup : new.guest.setup ≡ old.guest.setup
   pub room : new.journal.record_room ≡ old.journal.record_room
   pub outer : new.journal.outer ≡ old.journal.outer
-  pub runs : IfNone result (new.guest.mode ≡ mode.Running)
-  pub full : result ≡ Some stop.Full → new.guest.mode ≡ mode.Running
+  pub mode_is : StopsIn result new.guest.mode
 
 -- it made at most so many events, and no more entries and bytes than events; where the run goes on, it made just so many,
 -- and if it made any, the last entry is no tick

@@ -1,5 +1,5 @@
 -- A run of the engine, and what it came to.
-use Rattle.std.specs.Prelude.{◌≡◌, ℕ, suc, ◌≤◌, ◌++◌, List, length, Option, Some, None, IfNone, Bool, true, false, map}
+use Rattle.std.specs.Prelude.{◌≡◌, ℕ, suc, ◌≤◌, ◌++◌, List, length, Option, Some, None, IfNone, is_some, Bool, true, false, map}
 use Rattle.tv_base.specs.declared.Why.{Why}
 use Rattle.tv_base.specs.declared.Why.TheVariants as why
 use Rattle.tv_journal.specs.declared.Entry.{Entry}
@@ -7,9 +7,10 @@ use Rattle.tv_machine_file.specs.declared.machine.Machine.{Machine}
 use Rattle.tv_out.specs.Faults.{Rose}
 use Rattle.tv_out.specs.Told.{ToldSink, appended, IsCut}
 use Rattle.tv_spec.specs.declared.Stop.{Stop}
-use Rattle.tv_spec.specs.Legal.{IsLegalRun}
+use Rattle.tv_spec.specs.declared.Stop.TheVariants as stop
+use Rattle.tv_spec.specs.Legal.{IsLegalRun, with_outer}
 use Rattle.tv_spec.specs.Setup.{setup_of}
-use Rattle.tv_spec.specs.Shows.{debug_bytes}
+use Rattle.tv_spec.specs.Shows.{debug_bytes, cause_of_end}
 use Rattle.tv_spec.specs.Solo.{Solo, Going, rounds, solo_rounds, solo_run, outer_of_stop}
 use Rattle.tv_spec.specs.State.{first_state}
 use Rattle.tv_spec.specs.Step.{made}
@@ -44,17 +45,26 @@ abbrev pub outer_by : List Entry → Option Stop → Option (ℕ × Why)
 outer_by entries None = Some (length entries, why.DebugLost)
 outer_by entries (Some stopped) = outer_of_stop entries stopped
 
--- a run of a machine with an image: so many rounds of the schedule, which is all of it where no byte went lost
+-- the cause for which a run ended; one that stopped since an instruction is not built is open
+abbrev pub cause_by : Option Stop → Option Why
+cause_by None = Some why.DebugLost
+cause_by (Some (stop.Ended cause)) = Some cause
+cause_by (Some stop.Full) = Some why.Full
+cause_by (Some (stop.Unbuilt pc)) = None
+
+-- a run of a machine with an image: so many rounds of the schedule, which are all of it where it stopped; and where it did
+-- not stop, bytes went lost
 pub record IsRun (machine : Machine) (image : List ℕ) (ran : Ran) (old new : ToldSink) : Type 0 where
   pub earlier : ℕ
   pub middle : Solo
   pub solo : Solo
   pub before : ◌≡◌ {A = Going} (solo_rounds machine image earlier) (middle, None)
   pub rounds : ◌≡◌ {A = Going} (solo_rounds machine image (suc earlier)) (solo, ran.stop)
-  pub whole : ran.lost ≡ false → ◌≡◌ {A = Going} (solo_run machine image) (solo, ran.stop)
+  pub whole : is_some ran.stop ≡ true → ◌≡◌ {A = Going} (solo_run machine image) (solo, ran.stop)
   pub stopped : IfNone ran.stop (ran.lost ≡ true)
   pub entries : ran.journal.entries ≡ solo.entries
   pub outer : ran.journal.outer ≡ outer_by solo.entries ran.stop
   pub legal : IsLegalRun machine image ran.journal.entries ran.journal.outer
   pub bytes : solo.bytes ≡ debug_bytes (setup_of machine) (first_state machine image) (map made solo.entries)
+  pub cause : cause_of_end (setup_of machine) (first_state machine image) (with_outer ran.journal.entries ran.journal.outer) ≡ cause_by ran.stop
   pub put : IsPut ran.lost middle.bytes solo.bytes old new

@@ -1,13 +1,16 @@
 -- A run so far with an entry more.
 use Rattle.std.proofs.Common.{◌≡◌, List, [], ◌∷◌, ◌++◌, refl, ap, sym, ◌∙◌, subst, append_assoc, append-nil, map}
+use Rattle.std.specs.Prelude.{Option, Some, None}
+use Rattle.tv_base.specs.declared.Why.{Why}
 use Rattle.tv_journal.specs.declared.Entry.{Entry}
-use Rattle.tv_spec.specs.Legal.{after, IsLegal}
+use Rattle.tv_journal.specs.declared.Entry.TheVariants as entry
+use Rattle.tv_spec.specs.Legal.{after}
 use Rattle.tv_spec.specs.Setup.{Setup}
-use Rattle.tv_spec.specs.Shows.{debug_bytes, bytes_of}
+use Rattle.tv_spec.specs.Shows.{debug_bytes, bytes_of, cause_of_end, cause_in, end_of, or_else}
 use Rattle.tv_spec.specs.SoFar.{IsSoFar}
 use Rattle.tv_spec.specs.Solo.{Solo, makes}
 use Rattle.tv_spec.specs.State.{State}
-use Rattle.tv_spec.specs.Step.{Move, made, Can, done}
+use Rattle.tv_spec.specs.Step.{Move, made, Can, done, end_of_event, mode_by}
 use Rattle.tv_spec.proofs.Moves.{after-append, legal-append}
 
 -- the moves of entries and an entry more
@@ -22,6 +25,26 @@ debug-append setup s (move ∷ first) rest =
     ap (λ xs. bytes_of s move ++ xs) (debug-append setup (done setup s move) first rest)
     ∙ sym (append_assoc (bytes_of s move) (debug_bytes setup (done setup s move) first) (debug_bytes setup (after setup (done setup s move) first) rest))
 
+-- the cause of the end of moves, and of more of them
+pub cause-append : (setup : Setup) (s : State) (first rest : List Move) → cause_of_end setup s (first ++ rest) ≡ or_else (cause_of_end setup s first) (cause_of_end setup (after setup s first) rest)
+cause-append setup s [] rest = refl
+cause-append setup s (move ∷ first) rest =
+    ap (or_else (end_of setup s move)) (cause-append setup (done setup s move) first rest)
+    ∙ or_else-twice (end_of setup s move) (cause_of_end setup (done setup s move) first) (cause_of_end setup (after setup (done setup s move) first) rest)
+  where
+    or_else-twice : (a b c : Option Why) → or_else a (or_else b c) ≡ or_else (or_else a b) c
+    or_else-twice None b c = refl
+    or_else-twice (Some cause) b c = refl
+
+pub cause-by : (found : Option Why) → cause_in (mode_by found) ≡ or_else found None
+cause-by None = refl
+cause-by (Some cause) = refl
+
+-- a move that may stand ends the run as it says
+pub cause-more : (setup : Setup) (s : State) (e : Entry) → Can setup s (made e) → cause_in (done setup s (made e)).mode ≡ or_else (cause_in s.mode) (or_else (end_of setup s (made e)) None)
+cause-more setup s (entry.Hart hart) can = rw can.running (cause-by (end_of_event setup s hart))
+cause-more setup s (entry.Tick n) can = rw can.running refl
+
 pub so_far-more : (setup : Setup) (first : State) (solo : Solo) (e : Entry) → IsSoFar setup first solo → Can setup solo.state (made e) → IsSoFar setup first (makes setup solo e)
 so_far-more setup first solo e so_far can =
     let moves = map made solo.entries in
@@ -34,4 +57,9 @@ so_far-more setup first solo e so_far can =
           ∙ ap (λ (s : State). debug_bytes setup first moves ++ bytes_of s (made e)) so_far.state_is
           ∙ ap (λ bytes. debug_bytes setup first moves ++ bytes) (sym (append-nil (bytes_of (after setup first moves) (made e))))
           ∙ sym (debug-append setup first moves (made e ∷ [])));
+      cause_is = rw (moves-more solo.entries e)
+          (cause-more setup solo.state e can
+          ∙ ap (λ cause. or_else cause (or_else (end_of setup solo.state (made e)) None)) so_far.cause_is
+          ∙ ap (λ (s : State). or_else (cause_of_end setup first moves) (or_else (end_of setup s (made e)) None)) so_far.state_is
+          ∙ sym (cause-append setup first moves (made e ∷ [])));
     }

@@ -3,6 +3,8 @@ use Rattle.std.specs.Prelude.{ℕ, List, [], ◌∷◌, ◌++◌, Option, Some, 
 use Rattle.tv_base.specs.declared.Why.{Why}
 use Rattle.tv_base.specs.declared.Why.TheVariants as why
 use Rattle.tv_journal.specs.declared.Entry.TheVariants as entry
+use Rattle.tv_spec.specs.declared.Mode.{Mode}
+use Rattle.tv_spec.specs.declared.Mode.TheVariants as mode
 use Rattle.tv_spec.specs.declared.Shown.{Shown}
 use Rattle.tv_spec.specs.declared.Shown.TheVariants as shown
 use Rattle.tv_spec.specs.Setup.{Setup}
@@ -37,6 +39,11 @@ or_else (Some cause) later = Some cause
 abbrev pub cause_of_end : Setup → State → List Move → Option Why
 cause_of_end setup s [] = None
 cause_of_end setup s (move ∷ moves) = or_else (end_of setup s move) (cause_of_end setup (done setup s move) moves)
+
+-- the cause for which a run in this mode ended
+abbrev pub cause_in : Mode → Option Why
+cause_in mode.Running = None
+cause_in (mode.Ending cause) = Some cause
 
 -- the exit status of a run by its cause
 abbrev pub exit_status : Why → ℕ

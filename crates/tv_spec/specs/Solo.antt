@@ -1,5 +1,5 @@
 -- The schedule of a run on one thread: rounds, in which each hart has its turn and time goes on.
-use Rattle.std.specs.Prelude.{ℕ, zero, suc, ◌+◌, List, [], ◌∷◌, ◌++◌, length, Option, Some, None, Bool, true, false, nat_le, if◌then◌else◌}
+use Rattle.std.specs.Prelude.{ℕ, zero, suc, List, [], ◌∷◌, ◌++◌, length, Option, Some, None, Bool, nat_le, if◌then◌else◌}
 use Rattle.tv_base.specs.declared.Why.{Why}
 use Rattle.tv_base.specs.declared.Why.TheVariants as why
 use Rattle.tv_hart.specs.declared.Did.{Did}
@@ -15,7 +15,7 @@ use Rattle.tv_spec.specs.declared.Stop.TheVariants as stop
 use Rattle.tv_spec.specs.Setup.{Setup, setup_of}
 use Rattle.tv_spec.specs.Shows.{bytes_of}
 use Rattle.tv_spec.specs.State.{State, first_state}
-use Rattle.tv_spec.specs.Step.{Move, made, done, event_of}
+use Rattle.tv_spec.specs.Step.{made, done, event_of}
 
 -- a run so far: the state, the entries that led there, and the bytes that they showed at the debug port
 pub record Solo : Type 0 where

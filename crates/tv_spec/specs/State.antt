@@ -1,6 +1,5 @@
 -- The state of the in-process monitor. There is no message, no tube and no thread in it.
-use Rattle.std.specs.Prelude.{ℕ, List, Bool, false, Option, Some, None}
-use Rattle.tv_base.specs.declared.Why.{Why}
+use Rattle.std.specs.Prelude.{ℕ, List, Bool, false}
 use Rattle.tv_hart.specs.Hart.{first_hart}
 use Rattle.tv_hart.specs.HartState.{HartState}
 use Rattle.tv_machine_file.specs.declared.machine.Machine.{Machine}

@@ -11,18 +11,20 @@ use Rattle.tv_journal.specs.Entries.{record_count}
 use Rattle.tv_spec.specs.declared.Stop.{Stop}
 use Rattle.tv_spec.specs.declared.Stop.TheVariants as stop
 use Rattle.tv_spec.specs.Shows.{exit_status}
+use Rattle.tv_runner.specs.Runs.{cause_by}
 use Rattle.tv_top.specs.declared.flat.FlatRun.{FlatRun}
 use Rattle.tv_top.specs.declared.replay.ReplayRefusal.{ReplayRefusal}
 use Rattle.tv_top.specs.declared.replay.ReplayRefusal.TheVariants as replay_refusal
 use Rattle.tv_top.specs.declared.refusal.Refusal.{Refusal}
 use Rattle.tv_top.specs.declared.refusal.Refusal.TheVariants as refusal
 
--- the exit status of a run by why it stopped; bytes of a run that did not stop went lost
+-- the exit status of a run by the cause of its end; an open one stopped before an event that is not built
+abbrev pub cause_status : Option Why → ℕ
+cause_status None = 15
+cause_status (Some cause) = exit_status cause
+
 abbrev pub stop_status : Option Stop → ℕ
-stop_status None = 5
-stop_status (Some (stop.Ended cause)) = exit_status cause
-stop_status (Some stop.Full) = 7
-stop_status (Some (stop.Unbuilt pc)) = 15
+stop_status stopped = cause_status (cause_by stopped)
 
 -- and that of a run of which something could not be put
 abbrev pub run_status : FlatRun → ℕ
