@@ -30,7 +30,7 @@ fn numbers(rt: &impl AllocGlobal, numbers: &[u64]) -> Result<Vec<u64>, Fail> {
     Ok(Vec::from_slice(rt.alloc(), numbers)?)
 }
 
-/// A store of these files, of which the calls with these numbers fail. The file `journal` that it can create has room for so
+/// A store that knows the names `image` and `journal`, has these files, and fails the calls with these numbers. The file `journal` that it can create has room for so
 /// many bytes.
 fn files(
     rt: &impl AllocGlobal,
@@ -47,8 +47,11 @@ fn files(
     }
     let name = String::from_str(rt.alloc(), "journal")?;
     objects.sinks.push(Named::new(name, sink(rt, room, &[])?))?;
+    let mut names = Vec::new(rt.alloc());
+    names.push(String::from_str(rt.alloc(), "image")?)?;
+    names.push(String::from_str(rt.alloc(), "journal")?)?;
     let failing = numbers(rt, failing)?;
-    Ok(MemoryStore::new(rt.alloc(), Vec::new(rt.alloc()), objects, failing)?)
+    Ok(MemoryStore::new(rt.alloc(), names, objects, failing)?)
 }
 
 /// A sink with room for so many bytes, of which the puts with these numbers fail.
@@ -82,7 +85,7 @@ fn serve(
     } = outside;
     let journal = match &ended.journal {
         Some(journal) => {
-            let mut file = sink(rt, 64, &[])?;
+            let mut file = sink(rt, 1_000_000, &[])?;
             journal.write_file(&mut file)?;
             Some(file)
         }
