@@ -1,5 +1,6 @@
-//! A plain interpreter of the same instructions, in the same shape as `tv flat`: it loads an image, runs it for at most
-//! 1,000,000 events, puts its debug bytes after every 64 and ends with the same statuses. It is the yardstick of speed.
+//! A plain interpreter of the same instructions, in the same shape as `tv flat`: it loads an image, runs it for as many
+//! events as a second word says (rounds of 64, so a multiple of it; 1,000,000 without it), puts its debug bytes after each
+//! round and ends with the same statuses. It keeps no journal. It is the yardstick of speed.
 
 use std::io::Write;
 use std::process::ExitCode;
@@ -192,6 +193,11 @@ fn main() -> ExitCode {
     let Some(name) = std::env::args().nth(1) else {
         return ExitCode::from(2);
     };
+    let steps = match std::env::args().nth(2).map(|word| word.parse()) {
+        None => STEPS,
+        Some(Ok(steps)) => steps,
+        Some(Err(_)) => return ExitCode::from(2),
+    };
     let Ok(image) = std::fs::read(name) else {
         return ExitCode::from(4);
     };
@@ -202,7 +208,7 @@ fn main() -> ExitCode {
     ram[..image.len()].copy_from_slice(&image);
     let mut machine = Machine { x: [0; 32], pc: RAM_BASE, ram };
     let mut out = std::io::stdout();
-    for _ in 0..STEPS / ROUND {
+    for _ in 0..steps / ROUND {
         let mut bytes = Vec::with_capacity(ROUND as usize);
         let mut end = None;
         for _ in 0..ROUND {
