@@ -5,10 +5,11 @@ use std::alloc::{AllocError, Global};
 use std::process::ExitCode;
 use std::rt::Env;
 use std::{env, io};
-use tv_real::{FileStore, SystemEntropy, WriterSink};
+use tv_real::{FileStore, SystemEntropy, WriterSink, hold_streams};
 use tv_top::{PlainOutside, plain};
 
 fn main(rt: HostRuntime) -> ExitCode {
+    let _streams = hold_streams(&rt);
     // Words that cannot be had are no command line, and neither are none.
     let words = match words_of(&rt) {
         Ok(words) => words,

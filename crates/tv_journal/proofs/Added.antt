@@ -1,5 +1,5 @@
 -- Records with one more at their end, or with an entry added.
-use Rattle.std.proofs.Common.{◌≡◌, ℕ, zero, suc, ◌+◌, ◌-◌, ◌<◌, List, [], ◌∷◌, ◌++◌, Option, Some, None, replicate, length, set, take, refl, ap, sym, ◌∙◌, append_assoc, append-nil, arith, add-one, length-set, inl, inr}
+use Rattle.std.proofs.Common.{◌≡◌, ℕ, zero, suc, ◌+◌, ◌-◌, ◌<◌, List, [], ◌∷◌, ◌++◌, Option, Some, None, replicate, length, set, take, refl, ap, sym, ◌∙◌, append_assoc, append-nil, arith, length-set, inl, inr}
 use Rattle.std.proofs.lemmas.Bool.Decides.{eqb_tells}
 use Rattle.std.proofs.lemmas.Grind.{flat_map-append, take-set_at}
 use Rattle.std.proofs.lemmas.List.{take_more, take_all}
@@ -11,7 +11,7 @@ use Rattle.tv_journal.specs.declared.record.Record.{Record}
 use Rattle.tv_journal.specs.declared.record.Record.TheVariants as record_of
 use Rattle.tv_journal.specs.Entries.{entries_in, entries_of}
 use Rattle.tv_journal.specs.Grammar.{Differs, AreApart, last_record}
-use Rattle.tv_journal.specs.Journals.{added, hart_added}
+use Rattle.tv_journal.specs.Journals.{added, events_added, hart_added}
 
 -- the last of the records, or else the one that stands before them
 abbrev pub last_after : Option Record → List Record → Option Record
@@ -33,10 +33,14 @@ last_after-none (x ∷ rs) = let one_less : length (x ∷ rs) - 1 ≡ length rs 
 pub last_record-push : (rs : List Record) (r : Record) → last_record (rs ++ r ∷ []) ≡ Some r
 last_record-push rs r = sym (last_after-none (rs ++ r ∷ [])) ∙ last_after-push None rs r
 
--- the same element once more
-pub replicate-push : (n : ℕ) (e : Entry) → replicate (n + 1) e ≡ replicate n e ++ e ∷ []
-replicate-push zero e = refl
-replicate-push (suc n) e = let more = replicate-push n e in rw add-one (ap (λ (es : List Entry). e ∷ es) (rw add-one at more))
+-- the same element so often more
+pub replicate-more : (n more : ℕ) (e : Entry) → replicate (n + more) e ≡ replicate n e ++ replicate more e
+replicate-more zero more e =
+    let same : 0 + more ≡ more = omega arith in
+    ap (λ (k : ℕ). replicate k e) same
+replicate-more (suc n) more e =
+    let same : suc n + more ≡ suc (n + more) = omega arith in
+    ap (λ (k : ℕ). replicate k e) same ∙ ap (λ (es : List Entry). e ∷ es) (replicate-more n more e)
 
 -- what holds of each record holds of each with one more
 pub each-push : (P : Record → Type 0) (rs : List Record) (r : Record) → AllByRecursion P rs → P r → AllByRecursion P (rs ++ r ∷ [])
@@ -80,30 +84,33 @@ set-last rs old r is =
 pub entries-push : (rs : List Record) (r : Record) → entries_of (rs ++ r ∷ []) ≡ entries_of rs ++ entries_in r
 entries-push rs r = flat_map-append entries_in rs (r ∷ []) ∙ ap (λ (es : List Entry). entries_of rs ++ es) (append-nil (entries_in r))
 
--- the last record with one event more
-pub entries-longer : (rs : List Record) (hart count : ℕ) → last_record rs ≡ Some (record_of.Hart hart count)
-    → entries_of (set rs (length rs - 1) (record_of.Hart hart (count + 1))) ≡ entries_of rs ++ entry.Hart hart ∷ []
-entries-longer rs hart count is =
+-- the last record with so many events more
+pub entries-longer : (rs : List Record) (hart count more : ℕ) → last_record rs ≡ Some (record_of.Hart hart count)
+    → entries_of (set rs (length rs - 1) (record_of.Hart hart (count + more))) ≡ entries_of rs ++ replicate more (entry.Hart hart)
+entries-longer rs hart count more is =
     let front = take (length rs - 1) rs in
-    ap entries_of (set-last rs (record_of.Hart hart count) (record_of.Hart hart (count + 1)) is)
-    ∙ entries-push front (record_of.Hart hart (count + 1))
-    ∙ ap (λ (es : List Entry). entries_of front ++ es) (replicate-push count (entry.Hart hart))
-    ∙ sym (append_assoc (entries_of front) (replicate count (entry.Hart hart)) (entry.Hart hart ∷ []))
-    ∙ ap (λ (es : List Entry). es ++ entry.Hart hart ∷ []) (sym (ap entries_of (ends-with rs (record_of.Hart hart count) is) ∙ entries-push front (record_of.Hart hart count)))
+    ap entries_of (set-last rs (record_of.Hart hart count) (record_of.Hart hart (count + more)) is)
+    ∙ entries-push front (record_of.Hart hart (count + more))
+    ∙ ap (λ (es : List Entry). entries_of front ++ es) (replicate-more count more (entry.Hart hart))
+    ∙ sym (append_assoc (entries_of front) (replicate count (entry.Hart hart)) (replicate more (entry.Hart hart)))
+    ∙ ap (λ (es : List Entry). es ++ replicate more (entry.Hart hart)) (sym (ap entries_of (ends-with rs (record_of.Hart hart count) is) ∙ entries-push front (record_of.Hart hart count)))
 
-pub entries-hart_added : (rs : List Record) (hart : ℕ) (last : Option Record) → last_record rs ≡ last
-    → entries_of (hart_added rs hart last) ≡ entries_of rs ++ entry.Hart hart ∷ []
-entries-hart_added rs hart None is = entries-push rs (record_of.Hart hart 1)
-entries-hart_added rs hart (Some (record_of.Tick n)) is = entries-push rs (record_of.Hart hart 1)
-entries-hart_added rs hart (Some (record_of.Hart last count)) is =
+pub entries-hart_added : (rs : List Record) (hart more : ℕ) (last : Option Record) → last_record rs ≡ last
+    → entries_of (hart_added rs hart more last) ≡ entries_of rs ++ replicate more (entry.Hart hart)
+entries-hart_added rs hart more None is = entries-push rs (record_of.Hart hart more)
+entries-hart_added rs hart more (Some (record_of.Tick n)) is = entries-push rs (record_of.Hart hart more)
+entries-hart_added rs hart more (Some (record_of.Hart last count)) is =
     elim (eqb_tells hart last) [
-      | inl same ↦ rw same.0 (entries-longer rs last count is ∙ ap (λ (h : ℕ). entries_of rs ++ entry.Hart h ∷ []) (sym same.1))
-      | inr other ↦ rw other.0 (entries-push rs (record_of.Hart hart 1))
+      | inl same ↦ rw same.0 (entries-longer rs last count more is ∙ ap (λ (h : ℕ). entries_of rs ++ replicate more (entry.Hart h)) (sym same.1))
+      | inr other ↦ rw other.0 (entries-push rs (record_of.Hart hart more))
     ]
+
+pub entries-events : (rs : List Record) (hart more : ℕ) → entries_of (events_added rs hart more) ≡ entries_of rs ++ replicate more (entry.Hart hart)
+entries-events rs hart more = entries-hart_added rs hart more (last_record rs) refl
 
 pub entries-added : (rs : List Record) (e : Entry) → entries_of (added rs e) ≡ entries_of rs ++ e ∷ []
 entries-added rs (entry.Tick n) = entries-push rs (record_of.Tick n)
-entries-added rs (entry.Hart hart) = entries-hart_added rs hart (last_record rs) refl
+entries-added rs (entry.Hart hart) = entries-events rs hart 1
 
 -- a record in place of the last one
 pub each-longer : (P : Record → Type 0) (rs : List Record) (old r : Record) → last_record rs ≡ Some old → AllByRecursion P rs → P r
@@ -112,10 +119,10 @@ each-longer P rs old r is each here =
     let front : AllByRecursion P (take (length rs - 1) rs ++ old ∷ []) = rw (← ends-with rs old is) each in
     rw (set-last rs old r is) (each-push P (take (length rs - 1) rs) r (each-front P _ _ front).0 here)
 
-pub apart-longer : (rs : List Record) (hart count : ℕ) → last_record rs ≡ Some (record_of.Hart hart count) → AreApart None rs
-    → AreApart None (set rs (length rs - 1) (record_of.Hart hart (count + 1)))
-apart-longer rs hart count is apart =
+pub apart-longer : (rs : List Record) (hart count later : ℕ) → last_record rs ≡ Some (record_of.Hart hart count) → AreApart None rs
+    → AreApart None (set rs (length rs - 1) (record_of.Hart hart later))
+apart-longer rs hart count later is apart =
     let front : AreApart None (take (length rs - 1) rs ++ record_of.Hart hart count ∷ []) = rw (← ends-with rs (record_of.Hart hart count) is) apart in
     let parts = apart-front None (take (length rs - 1) rs) (record_of.Hart hart count) front in
-    rw (set-last rs (record_of.Hart hart count) (record_of.Hart hart (count + 1)) is)
-    (apart-push None (take (length rs - 1) rs) (record_of.Hart hart (count + 1)) parts.0 (differs-same _ hart count (count + 1) parts.1))
+    rw (set-last rs (record_of.Hart hart count) (record_of.Hart hart later) is)
+    (apart-push None (take (length rs - 1) rs) (record_of.Hart hart later) parts.0 (differs-same _ hart count later parts.1))

@@ -4,6 +4,7 @@ use Rattle.std.proofs.lemmas.Bool.{false≢true, le-leb}
 use Rattle.std.proofs.lemmas.Bool.Decides.{eqb_tells}
 use Rattle.std.proofs.lemmas.List.{take-append-le, drop-append-le, length-replicate}
 use Rattle.std.specs.List.{AllByRecursion}
+use Rattle.std.specs.Option.{is_some}
 use Rattle.tv_journal.specs.declared.Entry.{Entry}
 use Rattle.tv_journal.specs.declared.Entry.TheVariants as entry
 use Rattle.tv_journal.specs.declared.record.EndLine.{EndLine}
@@ -11,8 +12,8 @@ use Rattle.tv_journal.specs.declared.record.Record.{Record}
 use Rattle.tv_journal.specs.declared.record.Record.TheVariants as record_of
 use Rattle.tv_journal.specs.Entries.{entries_of, record_count}
 use Rattle.tv_journal.specs.Grammar.{IsRecord, Differs, AreApart, EndFits, last_record, IsTick, outer_of}
-use Rattle.tv_journal.specs.Journals.{JournalState, IsKept, IsOuterEnd, IsEntry, MayFollow, FitsEntry, CanCount, added, hart_added, added_within, pushed, has_room, joins_last}
-use Rattle.tv_journal.proofs.Added.{last_after-none, each-push, apart-push, ends-with, entries-push, entries-added, each-longer, apart-longer}
+use Rattle.tv_journal.specs.Journals.{JournalState, IsKept, IsOuterEnd, IsEntry, MayFollow, FitsEntry, CanCount, added, events_added, hart_added, grown_within, pushed_all, has_room, joins_last}
+use Rattle.tv_journal.proofs.Added.{last_after-none, each-push, apart-push, ends-with, entries-push, entries-added, entries-events, each-longer, apart-longer}
 use Rattle.tv_journal.proofs.Records.{count-again, kept-records}
 
 -- a last run has no more events than there are
@@ -23,39 +24,46 @@ run-within rs hart count is =
     ap entries_of (ends-with rs (record_of.Hart hart count) is) ∙ entries-push front (record_of.Hart hart count) in
     rw parts (omega (arith, length-append (entries_of front) (replicate count (entry.Hart hart)), length-replicate count (entry.Hart hart)))
 
-pub can-count-last : (rs : List Record) (last : Option Record) → last_record rs ≡ last → length (entries_of rs) < 2 ^ 32 - 1 → CanCount last
-can-count-last rs None is few = tt
-can-count-last rs (Some (record_of.Tick n)) is few = tt
-can-count-last rs (Some (record_of.Hart hart count)) is few = omega (arith, run-within rs hart count is)
+pub can-count-last : (rs : List Record) (more : ℕ) (last : Option Record) → last_record rs ≡ last → length (entries_of rs) + more < 2 ^ 32 → CanCount last more
+can-count-last rs more None is few = omega arith
+can-count-last rs more (Some (record_of.Tick n)) is few = omega arith
+can-count-last rs more (Some (record_of.Hart hart count)) is few = omega (arith, run-within rs hart count is)
 
-pub can-count : (rs : List Record) → length (entries_of rs) < 2 ^ 32 - 1 → CanCount (last_record rs)
-can-count rs few = can-count-last rs (last_record rs) refl few
+pub can-count : (rs : List Record) (more : ℕ) → length (entries_of rs) + more < 2 ^ 32 → CanCount (last_record rs) more
+can-count rs more few = can-count-last rs more (last_record rs) refl few
 
 -- records stay in range
-pub each-hart_added : (rs : List Record) (hart : ℕ) (last : Option Record) → last_record rs ≡ last → AllByRecursion IsRecord rs → hart < 8 → CanCount last
-    → AllByRecursion IsRecord (hart_added rs hart last)
-each-hart_added rs hart None is each fits can = each-push IsRecord rs (record_of.Hart hart 1) each (fits, omega arith, omega arith)
-each-hart_added rs hart (Some (record_of.Tick n)) is each fits can = each-push IsRecord rs (record_of.Hart hart 1) each (fits, omega arith, omega arith)
-each-hart_added rs hart (Some (record_of.Hart last count)) is each fits can =
+pub each-hart_added : (rs : List Record) (hart more : ℕ) (last : Option Record) → last_record rs ≡ last → AllByRecursion IsRecord rs → hart < 8 → 0 < more → CanCount last more
+    → AllByRecursion IsRecord (hart_added rs hart more last)
+each-hart_added rs hart more None is each fits some can = each-push IsRecord rs (record_of.Hart hart more) each (fits, some, can)
+each-hart_added rs hart more (Some (record_of.Tick n)) is each fits some can = each-push IsRecord rs (record_of.Hart hart more) each (fits, some, can)
+each-hart_added rs hart more (Some (record_of.Hart last count)) is each fits some can =
     elim (eqb_tells hart last) [
-      | inl same ↦ rw same.0 (each-longer IsRecord rs (record_of.Hart last count) (record_of.Hart last (count + 1)) is each (omega arith, omega arith, omega arith))
-      | inr other ↦ rw other.0 (each-push IsRecord rs (record_of.Hart hart 1) each (fits, omega arith, omega arith))
+      | inl same ↦ rw same.0 (each-longer IsRecord rs (record_of.Hart last count) (record_of.Hart last (count + more)) is each (omega arith, omega arith, omega arith))
+      | inr other ↦ rw other.0 (each-push IsRecord rs (record_of.Hart hart more) each (fits, some, omega arith))
     ]
 
-pub each-added : (rs : List Record) (e : Entry) → AllByRecursion IsRecord rs → FitsEntry e → IsEntry e → CanCount (last_record rs)
+pub each-events : (rs : List Record) (hart more : ℕ) → AllByRecursion IsRecord rs → hart < 8 → 0 < more → CanCount (last_record rs) more
+    → AllByRecursion IsRecord (events_added rs hart more)
+each-events rs hart more each fits some can = each-hart_added rs hart more (last_record rs) refl each fits some can
+
+pub each-added : (rs : List Record) (e : Entry) → AllByRecursion IsRecord rs → FitsEntry e → IsEntry e → CanCount (last_record rs) 1
     → AllByRecursion IsRecord (added rs e)
 each-added rs (entry.Tick n) each fits is can = each-push IsRecord rs (record_of.Tick n) each (is, fits)
-each-added rs (entry.Hart hart) each fits is can = each-hart_added rs hart (last_record rs) refl each fits can
+each-added rs (entry.Hart hart) each fits is can = each-events rs hart 1 each fits (omega arith) can
 
 -- records stay apart
-pub apart-hart_added : (rs : List Record) (hart : ℕ) (last : Option Record) → last_record rs ≡ last → AreApart None rs → AreApart None (hart_added rs hart last)
-apart-hart_added rs hart None is apart = apart-push None rs (record_of.Hart hart 1) apart (rw (last_after-none rs ∙ is) tt)
-apart-hart_added rs hart (Some (record_of.Tick n)) is apart = apart-push None rs (record_of.Hart hart 1) apart (rw (last_after-none rs ∙ is) tt)
-apart-hart_added rs hart (Some (record_of.Hart last count)) is apart =
+pub apart-hart_added : (rs : List Record) (hart more : ℕ) (last : Option Record) → last_record rs ≡ last → AreApart None rs → AreApart None (hart_added rs hart more last)
+apart-hart_added rs hart more None is apart = apart-push None rs (record_of.Hart hart more) apart (rw (last_after-none rs ∙ is) tt)
+apart-hart_added rs hart more (Some (record_of.Tick n)) is apart = apart-push None rs (record_of.Hart hart more) apart (rw (last_after-none rs ∙ is) tt)
+apart-hart_added rs hart more (Some (record_of.Hart last count)) is apart =
     elim (eqb_tells hart last) [
-      | inl same ↦ rw same.0 (apart-longer rs last count is apart)
-      | inr other ↦ rw other.0 (apart-push None rs (record_of.Hart hart 1) apart (rw (last_after-none rs ∙ is) other.1))
+      | inl same ↦ rw same.0 (apart-longer rs last count (count + more) is apart)
+      | inr other ↦ rw other.0 (apart-push None rs (record_of.Hart hart more) apart (rw (last_after-none rs ∙ is) other.1))
     ]
+
+pub apart-events : (rs : List Record) (hart more : ℕ) → AreApart None rs → AreApart None (events_added rs hart more)
+apart-events rs hart more apart = apart-hart_added rs hart more (last_record rs) refl apart
 
 pub differs-tick : (before : Option Record) (n : ℕ) → Differs before (record_of.Tick n)
 differs-tick None n = tt
@@ -64,7 +72,7 @@ differs-tick (Some (record_of.Hart _ _)) n = tt
 
 pub apart-added : (rs : List Record) (e : Entry) → AreApart None rs → AreApart None (added rs e)
 apart-added rs (entry.Tick n) apart = apart-push None rs (record_of.Tick n) apart (differs-tick _ n)
-apart-added rs (entry.Hart hart) apart = apart-hart_added rs hart (last_record rs) refl apart
+apart-added rs (entry.Hart hart) apart = apart-events rs hart 1 apart
 
 -- an end line stays where it is
 pub end-added : (rs : List Record) (end : Option EndLine) (e : Entry) → EndFits rs end → MayFollow (outer_of end) e → EndFits (added rs e) end
@@ -85,7 +93,7 @@ pub kept-added : (rs : List Record) (end : Option EndLine) (events room capacity
     → IsKept (added rs e) end (events + 1) room later
 kept-added rs end events room capacity later e kept few bound fits is follows within taken = record {
   are = record {
-    each = each-added rs e kept.are.each fits is (can-count rs few);
+    each = each-added rs e kept.are.each fits is (can-count rs 1 (omega arith));
     apart = apart-added rs e kept.are.apart;
     few = omega arith;
     ended = end-added rs end e kept.are.ended follows;
@@ -95,7 +103,27 @@ kept-added rs end events room capacity later e kept few bound fits is follows wi
   taken = taken;
 }
 
--- the answers of `added_within`, and of `pushed` with them
+-- events of a hart more, where no end was set
+pub end-open : (rs : List Record) (end : Option EndLine) → outer_of end ≡ None → EndFits rs end
+end-open rs None none = tt
+end-open rs (Some end) none = absurd (false≢true (ap is_some (sym none)))
+
+pub kept-events : (rs : List Record) (end : Option EndLine) (events room capacity later hart more : ℕ) → IsKept rs end events room capacity
+    → length (entries_of rs) + more < 2 ^ 32 → room < 2 ^ 32 → hart < 8 → 0 < more → outer_of end ≡ None → length (events_added rs hart more) ≤ room → room ≤ later
+    → IsKept (events_added rs hart more) end (events + more) room later
+kept-events rs end events room capacity later hart more kept few bound fits some none within taken = record {
+  are = record {
+    each = each-events rs hart more kept.are.each fits some (can-count rs more few);
+    apart = apart-events rs hart more kept.are.apart;
+    few = omega arith;
+    ended = end-open (events_added rs hart more) end none;
+  };
+  counted = rw (entries-events rs hart more) (omega (arith, kept.counted, length-append (entries_of rs) (replicate more (entry.Hart hart)), length-replicate more (entry.Hart hart)));
+  room = within;
+  taken = taken;
+}
+
+-- the answers of `grown_within`, and of `pushed_all` with them
 pub chosen-yes : (b : Bool) (items x y : List Record) → ◌≡◌ {A = Bool × List Record} (true, items) (cond b (true, x) (false, y)) → (b ≡ true) × (items ≡ x)
 chosen-yes true items x y is = (refl, ap (λ (p : Bool × List Record). p.1) is)
 chosen-yes false items x y is = absurd (false≢true (sym (ap (λ (p : Bool × List Record). p.0) is)))
@@ -111,26 +139,32 @@ pub count-added : (rs : List Record) (end : Option EndLine) (events room capacit
     → length (entries_of rs) < 2 ^ 32 - 1 → FitsEntry e → IsEntry e → record_count (entries_of rs ++ e ∷ []) ≡ length (added rs e)
 count-added rs end events room capacity e kept few fits is =
     ap record_count (sym (entries-added rs e))
-    ∙ count-again (added rs e) (each-added rs e kept.are.each fits is (can-count rs few)) (apart-added rs e kept.are.apart)
+    ∙ count-again (added rs e) (each-added rs e kept.are.each fits is (can-count rs 1 (omega arith))) (apart-added rs e kept.are.apart)
 
-pub pushed-yes : (rs items : List Record) (end : Option EndLine) (events room capacity payload : ℕ) (e : Entry) → IsKept rs end events room capacity
-    → length (entries_of rs) < 2 ^ 32 - 1 → FitsEntry e → IsEntry e → ◌≡◌ {A = Bool × List Record} (true, items) (added_within room rs e)
-    → ◌≡◌ {A = Bool × JournalState} (true, seen items end room payload) (pushed (seen rs end room payload) e)
-pushed-yes rs items end events room capacity payload e kept few fits is added_is =
-    let parts = chosen-yes (leb (length (added rs e)) room) items (added rs e) rs added_is in
-    let test : leb (record_count (entries_of rs ++ e ∷ [])) room ≡ true = rw (count-added rs end events room capacity e kept few fits is) parts.0 in
-    rw (test, parts.1, entries-added rs e) refl
+pub count-events : (rs : List Record) (end : Option EndLine) (events room capacity hart more : ℕ) → IsKept rs end events room capacity
+    → length (entries_of rs) + more < 2 ^ 32 → hart < 8 → 0 < more → record_count (entries_of rs ++ replicate more (entry.Hart hart)) ≡ length (events_added rs hart more)
+count-events rs end events room capacity hart more kept few fits some =
+    ap record_count (sym (entries-events rs hart more))
+    ∙ count-again (events_added rs hart more) (each-events rs hart more kept.are.each fits some (can-count rs more few)) (apart-events rs hart more kept.are.apart)
 
-pub pushed-no : (rs items : List Record) (end : Option EndLine) (events room capacity payload : ℕ) (e : Entry) → IsKept rs end events room capacity
-    → length (entries_of rs) < 2 ^ 32 - 1 → FitsEntry e → IsEntry e → ◌≡◌ {A = Bool × List Record} (false, items) (added_within room rs e)
-    → ◌≡◌ {A = Bool × JournalState} (false, seen items end room payload) (pushed (seen rs end room payload) e)
-pushed-no rs items end events room capacity payload e kept few fits is added_is =
-    let parts = chosen-no (leb (length (added rs e)) room) items (added rs e) rs added_is in
-    let test : leb (record_count (entries_of rs ++ e ∷ [])) room ≡ false = rw (count-added rs end events room capacity e kept few fits is) parts.0 in
+pub pushed-yes : (rs later items : List Record) (end : Option EndLine) (room payload : ℕ) (es : List Entry) → entries_of later ≡ entries_of rs ++ es
+    → record_count (entries_of rs ++ es) ≡ length later → ◌≡◌ {A = Bool × List Record} (true, items) (grown_within room rs later)
+    → ◌≡◌ {A = Bool × JournalState} (true, seen items end room payload) (pushed_all (seen rs end room payload) es)
+pushed-yes rs later items end room payload es entries_is count_is grown_is =
+    let parts = chosen-yes (leb (length later) room) items later rs grown_is in
+    let test : leb (record_count (entries_of rs ++ es)) room ≡ true = rw count_is parts.0 in
+    rw (test, parts.1, entries_is) refl
+
+pub pushed-no : (rs later items : List Record) (end : Option EndLine) (room payload : ℕ) (es : List Entry)
+    → record_count (entries_of rs ++ es) ≡ length later → ◌≡◌ {A = Bool × List Record} (false, items) (grown_within room rs later)
+    → ◌≡◌ {A = Bool × JournalState} (false, seen items end room payload) (pushed_all (seen rs end room payload) es)
+pushed-no rs later items end room payload es count_is grown_is =
+    let parts = chosen-no (leb (length later) room) items later rs grown_is in
+    let test : leb (record_count (entries_of rs ++ es)) room ≡ false = rw count_is parts.0 in
     rw (test, parts.1) refl
 
 -- the records with an entry added are as many, or one more
-pub length-hart_added : (rs : List Record) (hart : ℕ) (last : Option Record) → length (hart_added rs hart last) ≡ cond (joins_last last (entry.Hart hart)) (length rs) (length rs + 1)
+pub length-hart_added : (rs : List Record) (hart : ℕ) (last : Option Record) → length (hart_added rs hart 1 last) ≡ cond (joins_last last (entry.Hart hart)) (length rs) (length rs + 1)
 length-hart_added rs hart None = length-append rs (record_of.Hart hart 1 ∷ [])
 length-hart_added rs hart (Some (record_of.Tick n)) = length-append rs (record_of.Hart hart 1 ∷ [])
 length-hart_added rs hart (Some (record_of.Hart last count)) = elim (eqb_tells hart last) [

@@ -1,6 +1,6 @@
 -- Records and the entries that they hold.
-use Rattle.std.proofs.Common.{◌≡◌, ℕ, zero, suc, ◌*◌, ◌-◌, ◌^◌, ◌<◌, ◌≤◌, List, [], ◌∷◌, ◌++◌, Option, Some, None, replicate, length, refl, ap, sym, ◌∙◌, arith}
-use Rattle.std.proofs.lemmas.Bool.Decides.{nat_tests}
+use Rattle.std.proofs.Common.{◌≡◌, ℕ, zero, suc, ◌*◌, ◌-◌, ◌^◌, ◌<◌, ◌≤◌, List, [], ◌∷◌, ◌++◌, Option, Some, None, replicate, length, refl, ap, sym, ◌∙◌, append-nil, arith, inl, inr}
+use Rattle.std.proofs.lemmas.Bool.Decides.{nat_tests, eqb_tells}
 use Rattle.std.proofs.lemmas.Grind.{common_steps}
 use Rattle.std.specs.List.{AllByRecursion}
 use Rattle.tv_journal.specs.declared.Entry.{Entry}
@@ -23,6 +23,51 @@ unfolding records_of
 run-joined zero hart n es rs apart is = ap (joined (entry.Hart hart)) is ∙ joined-apart hart n rs apart
 run-joined (suc k) hart n es rs apart is =
     ap (joined (entry.Hart hart)) (run-joined k hart n es rs apart is) ∙ grind (arith, nat_tests)
+
+-- records that are as many, of which the first ones are ticks or of the same hart
+abbrev pub IsLike : Record → Record → Type 0
+IsLike (record_of.Hart hart m) (record_of.Hart other n) = hart ≡ other
+IsLike (record_of.Tick m) (record_of.Tick n) = Unit {0}
+IsLike _ _ = ⊥
+
+abbrev pub AreAlike : List Record → List Record → Type 0
+AreAlike [] [] = Unit {0}
+AreAlike (r ∷ rs) (s ∷ ss) = IsLike r s × (length rs ≡ length ss)
+AreAlike _ _ = ⊥
+
+alike-many : (rs ss : List Record) → AreAlike rs ss → length rs ≡ length ss
+alike-many [] [] like = refl
+alike-many (r ∷ rs) (s ∷ ss) like = ap suc like.1
+alike-many [] (s ∷ ss) like = absurd like
+alike-many (r ∷ rs) [] like = absurd like
+
+-- an entry before them leaves them so
+joined-alike : (e : Entry) (rs ss : List Record) → AreAlike rs ss → AreAlike (joined e rs) (joined e ss)
+joined-alike (entry.Tick n) rs ss like = (tt, alike-many rs ss like)
+joined-alike (entry.Hart hart) [] [] like = (refl, refl)
+joined-alike (entry.Hart hart) (record_of.Tick m ∷ rs) (record_of.Tick n ∷ ss) like = (refl, ap suc like.1)
+joined-alike (entry.Hart hart) (record_of.Hart a m ∷ rs) (record_of.Hart b n ∷ ss) like =
+    rw (← like.0) (elim (eqb_tells hart a) [
+      | inl same ↦ rw same.0 (refl, like.1)
+      | inr other ↦ rw other.0 (refl, ap suc like.1)
+    ])
+joined-alike (entry.Hart hart) [] (s ∷ ss) like = absurd like
+joined-alike (entry.Hart hart) (r ∷ rs) [] like = absurd like
+joined-alike (entry.Hart hart) (record_of.Hart a m ∷ rs) (record_of.Tick n ∷ ss) like = absurd like.0
+joined-alike (entry.Hart hart) (record_of.Tick m ∷ rs) (record_of.Hart b n ∷ ss) like = absurd like.0
+
+run-alike : (es : List Entry) (hart k : ℕ) → AreAlike (records_of (es ++ replicate (suc k) (entry.Hart hart))) (records_of (es ++ entry.Hart hart ∷ []))
+unfolding records_of
+run-alike [] hart k =
+    let run : records_of (replicate (suc k) (entry.Hart hart)) ≡ record_of.Hart hart (suc k) ∷ [] =
+    ap records_of (sym (append-nil (replicate (suc k) (entry.Hart hart)))) ∙ run-joined k hart 1 [] [] tt refl in
+    rw run (refl, refl)
+run-alike (x ∷ es) hart k = joined-alike x _ _ (run-alike es hart k)
+
+-- some events of a hart take as much room as one of them
+pub run-count : (es : List Entry) (hart k : ℕ) → record_count (es ++ replicate (suc k) (entry.Hart hart)) ≡ record_count (es ++ entry.Hart hart ∷ [])
+unfolding record_count
+run-count es hart k = alike-many _ _ (run-alike es hart k)
 
 -- a record of some events
 abbrev pub IsSome : Record → Type 0

@@ -21,16 +21,22 @@ pub record JournalState : Type 0 where
 abbrev pub free_records : JournalState → ℕ
 free_records journal = journal.record_room - record_count journal.entries
 
--- whether there is room for the records then
-abbrev pub has_room : JournalState → Entry → Bool
-has_room journal e = nat_le (record_count (journal.entries ++ e ∷ [])) journal.record_room
+-- whether there is room for the records with these entries added
+abbrev pub has_room_for : JournalState → List Entry → Bool
+has_room_for journal es = nat_le (record_count (journal.entries ++ es)) journal.record_room
 
--- an entry is added exactly where there is room for the records then
-abbrev pub pushed : JournalState → Entry → Bool × JournalState
-pushed journal e =
-    if has_room journal e
-    then (true, record journal { entries = journal.entries ++ e ∷ [] })
+abbrev pub has_room : JournalState → Entry → Bool
+has_room journal e = has_room_for journal (e ∷ [])
+
+-- entries are added exactly where there is room for the records then
+abbrev pub pushed_all : JournalState → List Entry → Bool × JournalState
+pushed_all journal es =
+    if has_room_for journal es
+    then (true, record journal { entries = journal.entries ++ es })
     else (false, journal)
+
+abbrev pub pushed : JournalState → Entry → Bool × JournalState
+pushed journal e = pushed_all journal (e ∷ [])
 
 -- an entry that some file has: a tick adds something
 abbrev pub IsEntry : Entry → Type 0
@@ -48,25 +54,28 @@ pub record IsOuterEnd (entries : List Entry) (outer : Option (ℕ × Why)) : Typ
   pub fits : EndFits (records_of entries) line
   pub outer_is : outer ≡ outer_of line
 
--- records with an entry after them: it joins a last record of the same hart
-abbrev pub hart_added : List Record → ℕ → Option Record → List Record
-hart_added records hart (Some (record_of.Hart last count)) =
-    if hart == last then slice_set records (length records - 1) (record_of.Hart last (count + 1))
-    else records ++ record_of.Hart hart 1 ∷ []
-hart_added records hart _ = records ++ record_of.Hart hart 1 ∷ []
+-- records with so many events of a hart after them: they join a last record of the same hart
+abbrev pub hart_added : List Record → ℕ → ℕ → Option Record → List Record
+hart_added records hart more (Some (record_of.Hart last count)) =
+    if hart == last then slice_set records (length records - 1) (record_of.Hart last (count + more))
+    else records ++ record_of.Hart hart more ∷ []
+hart_added records hart more _ = records ++ record_of.Hart hart more ∷ []
 
+abbrev pub events_added : List Record → ℕ → ℕ → List Record
+events_added records hart more = hart_added records hart more (last_record records)
+
+-- records with an entry after them
 abbrev pub added : List Record → Entry → List Record
 added records (entry.Tick n) = records ++ record_of.Tick n ∷ []
-added records (entry.Hart hart) = hart_added records hart (last_record records)
+added records (entry.Hart hart) = events_added records hart 1
 
 -- a record more where there is room
 abbrev pub pushed_within : ℕ → List Record → Record → Bool × List Record
 pushed_within room records r = if nat_lt (length records) room then (true, records ++ r ∷ []) else (false, records)
 
--- an entry where there is room
-abbrev pub added_within : ℕ → List Record → Entry → Bool × List Record
-added_within room records e =
-    if nat_le (length (added records e)) room then (true, added records e) else (false, records)
+-- other records in their place where there is room
+abbrev pub grown_within : ℕ → List Record → List Record → Bool × List Record
+grown_within room records later = if nat_le (length later) room then (true, later) else (false, records)
 
 -- the run that a record is, if it is one
 abbrev pub run_of : Option Record → Option (ℕ × ℕ)
@@ -78,10 +87,10 @@ abbrev pub joins_last : Option Record → Entry → Bool
 joins_last (Some (record_of.Hart last count)) (entry.Hart hart) = hart == last
 joins_last _ e = false
 
--- a last record of a hart can count one event more
-abbrev pub CanCount : Option Record → Type 0
-CanCount (Some (record_of.Hart last count)) = count + 1 < 2 ^ 32
-CanCount _ = Unit {0}
+-- a last record of a hart can count so many events more
+abbrev pub CanCount : Option Record → ℕ → Type 0
+CanCount (Some (record_of.Hart last count)) more = count + more < 2 ^ 32
+CanCount _ more = more < 2 ^ 32
 
 -- what the type of an entry says
 abbrev pub FitsEntry : Entry → Type 0

@@ -1,14 +1,14 @@
 //! The journal of a run: its events in order, kept as records, and the file that they are saved in.
 #![tactic(auto)]
 
-ghost use Rattle.std.specs.Prelude.{◌≡◌, ◌≢◌, ℕ, ◌<◌, ◌-◌, ◌^◌, List, [], Option, None, Err, IfOk, length};
+ghost use Rattle.std.specs.Prelude.{◌≡◌, ◌≢◌, ℕ, ◌+◌, ◌<◌, ◌-◌, ◌^◌, List, [], Option, None, Err, IfOk, length, replicate};
 ghost use Rattle.tv_base.specs.declared.Why.{Why};
 ghost use Rattle.tv_out.specs.Faults.{HasCause};
 ghost use Rattle.tv_journal.specs.declared.Entry.{Entry};
 ghost use Rattle.tv_journal.specs.Entries.{record_count, records_of};
 ghost use Rattle.tv_journal.specs.Grammar.{cause_byte, SpellsJournal, IsLongestFront};
 ghost use Rattle.tv_journal.specs.Writing.{IsSaved};
-ghost use Rattle.tv_journal.specs.Journals.{has_room, pushed, next_record, IsEntry, IsOuterEnd, MayFollow};
+ghost use Rattle.tv_journal.specs.Journals.{has_room, pushed, pushed_all, next_record, IsEntry, IsOuterEnd, MayFollow};
 
 mod field;
 mod reader;
@@ -16,7 +16,7 @@ mod record;
 mod writer;
 
 use reader::{Reader, StepFault};
-use record::{EndLine, Record, add, needs_no_record, record_at};
+use record::{EndLine, Record, add, add_events, needs_no_record, record_at};
 use std::alloc::Global;
 use std::marker::Model;
 use tv_base::{HartNo, Memory, Why};
@@ -120,6 +120,23 @@ impl Journal {
             return false;
         }
         self.events += 1;
+        true
+    }
+
+    /// Adds so many events of a hart, one after the other; `false` exactly where there is no room for the records that the
+    /// journal then has, and nothing is changed then.
+    #[inline(always)]
+    pub fn push_events(&mut self, hart: HartNo, count: u32) -> bool
+        requires some { 0 < count }
+        requires few { length self.old.entries + count < 2 ^ 32 }
+        requires open { self.old.outer ≡ None }
+        ensures { (result, self.new) ≡ pushed_all self.old (replicate count (Entry.Hart hart)) }
+    {
+        let room = self.record_room as usize;
+        if !add_events(&mut self.records, room, hart, count) {
+            return false;
+        }
+        self.events += u64::from(count);
         true
     }
 

@@ -2,7 +2,7 @@
 
 ghost use Rattle.std.specs.Prelude.{◌≡◌, ◌≤◌, ◌<◌, OnSome, length, slice_get, vec_capacity};
 ghost use Rattle.tv_journal.specs.Grammar.{last_record};
-ghost use Rattle.tv_journal.specs.Journals.{added_within, pushed_within, run_of, joins_last, entry_and_count, CanCount, FitsEntry};
+ghost use Rattle.tv_journal.specs.Journals.{added, events_added, grown_within, pushed_within, run_of, joins_last, entry_and_count, CanCount, FitsEntry};
 
 use crate::Entry;
 use tv_base::{HartNo, Why};
@@ -56,24 +56,24 @@ pub fn record_at(records: &[Record], at: usize) -> Option<Record>
 pub fn add(records: &mut Vec<Record>, room: usize, entry: Entry) -> bool
     requires room { length records.old.items ≤ room }
     requires taken { room ≤ vec_capacity records.old }
-    requires few { CanCount (last_record records.old.items) }
-    ensures added { (result, records.new.items) ≡ added_within room records.old.items entry }
+    requires few { CanCount (last_record records.old.items) 1 }
+    ensures added { (result, records.new.items) ≡ grown_within room records.old.items (added records.old.items entry) }
     ensures taken { room ≤ vec_capacity records.new }
     ensures fits { FitsEntry entry }
 {
     match entry {
-        Entry::Hart(hart) => add_event(records, room, hart),
+        Entry::Hart(hart) => add_events(records, room, hart, 1),
         Entry::Tick(n) => add_record(records, room, Record::Tick(n)),
     }
 }
 
-/// Adds an event of a hart.
+/// Adds so many events of a hart. They join the last record if that is one of the hart, or else are one record.
 #[inline(always)]
-fn add_event(records: &mut Vec<Record>, room: usize, hart: HartNo) -> bool
+pub fn add_events(records: &mut Vec<Record>, room: usize, hart: HartNo, more: u32) -> bool
     requires room { length records.old.items ≤ room }
     requires taken { room ≤ vec_capacity records.old }
-    requires few { CanCount (last_record records.old.items) }
-    ensures added { (result, records.new.items) ≡ added_within room records.old.items (Entry.Hart hart) }
+    requires few { CanCount (last_record records.old.items) more }
+    ensures added { (result, records.new.items) ≡ grown_within room records.old.items (events_added records.old.items hart more) }
     ensures taken { room ≤ vec_capacity records.new }
     ensures fits { hart < 8 }
 {
@@ -81,10 +81,10 @@ fn add_event(records: &mut Vec<Record>, room: usize, hart: HartNo) -> bool
     match last_run(records) {
         Some((last, count)) if number == last.get() => {
             let at = records.len() - 1;
-            records[at] = Record::Hart(last, count + 1);
+            records[at] = Record::Hart(last, count + more);
             true
         }
-        _ => add_record(records, room, Record::Hart(hart, 1)),
+        _ => add_record(records, room, Record::Hart(hart, more)),
     }
 }
 

@@ -55,6 +55,15 @@ fn add_event(rt: &impl Abort, journal: &mut Journal, hart: u8) -> bool {
     added
 }
 
+/// Adds so many events of a hart at once.
+fn add_events(rt: &impl Abort, journal: &mut Journal, hart: u8, count: u32) -> bool {
+    let hart = HartNo::new(hart).expect(rt, "a hart");
+    assert!(rt; count > 0 && count < 1000);
+    assert!(rt; journal.events() < 1000);
+    assert!(rt; journal.outer().is_none());
+    journal.push_events(hart, count)
+}
+
 /// Adds a tick.
 fn add_tick(rt: &impl Abort, journal: &mut Journal, n: u32) -> bool {
     assert!(rt; n > 0);
@@ -86,9 +95,10 @@ fn room_is_counted_in_records(rt: HostRuntime) -> Result<(), Fail> {
     assert!(rt; add_event(&rt, &mut one, 3));
     assert!(rt; !add_tick(&rt, &mut one, 1));
     assert!(rt; !add_event(&rt, &mut one, 4));
-    assert!(rt; add_event(&rt, &mut one, 3));
+    assert!(rt; !add_events(&rt, &mut one, 4, 2));
+    assert!(rt; add_events(&rt, &mut one, 3, 5));
     assert_eq!(rt; one.records(), 1);
-    assert_eq!(rt; one.events(), 3);
+    assert_eq!(rt; one.events(), 7);
     Ok(())
 }
 
@@ -105,9 +115,8 @@ fn journals_have_their_files(rt: HostRuntime) -> Result<(), Fail> {
         assert!(rt; add_event(&rt, &mut journal, 0));
     }
     assert!(rt; add_tick(&rt, &mut journal, 64));
-    for _event in 0..64u8 {
-        assert!(rt; add_event(&rt, &mut journal, 0));
-    }
+    assert!(rt; add_events(&rt, &mut journal, 0, 1));
+    assert!(rt; add_events(&rt, &mut journal, 0, 63));
     assert!(rt; !add_tick(&rt, &mut journal, 64));
     assert!(rt; journal.outer().is_none());
     journal.end(Why::Full);

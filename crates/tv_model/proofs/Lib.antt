@@ -1,4 +1,5 @@
 pub mod AtOnce
+pub mod Bursts
 pub mod First
 pub mod Made
 pub mod Stepping

@@ -18,11 +18,11 @@ use Rattle.tv_spec.specs.Setup.{Setup, setup_of}
 use Rattle.tv_spec.specs.State.{State, first_state}
 use Rattle.tv_spec.specs.Step.{Move, made, ended, Can}
 use Rattle.tv_spec.proofs.Moves.{after-append, legal-append}
-use Rattle.tv_model.specs.Guest.{state_of, IsFirst}
+use Rattle.tv_model.specs.Guest.{state_of, AreMade, IsFirst}
 use Rattle.tv_model.specs.GuestState.{GuestState}
 use Rattle.tv_model.specs.Monitor.{status_of}
 use Rattle.tv_model.specs.Replay.{IsFirstIllegal, IsLegalWith, IsRecordOf, entry_count, state_after}
-use Rattle.tv_model.specs.Replaying.{AreMade, StopsAmong, HasLeft, IsDueTooLate, due, not_due, closer}
+use Rattle.tv_model.specs.Replaying.{StopsAmong, HasLeft, IsDueTooLate, due, not_due, closer}
 use Rattle.tv_model.proofs.Stepping.{at_same, count-append, count-replicate, count-due, with-due, with-front, IsAtBorder, border-first, border-due, border-end, border-place, border-closer, left-of-border, entries-parts}
 
 -- a front of the moves was made: those of the first n records, and the outer end if it isn't still to come

@@ -1,10 +1,11 @@
 -- A replay, move by move.
 use Rattle.std.proofs.Common.{◌≡◌, ◌≢◌, ℕ, zero, suc, ◌+◌, ◌-◌, ◌<◌, ◌≤◌, List, [], ◌∷◌, ◌++◌, Option, Some, None, replicate, map, length, take, drop, refl, ap, sym, ◌∙◌, subst, append_assoc, length-append, arith}
 use Rattle.std.proofs.lemmas.Grind.{replicate_next, flat_map-append}
-use Rattle.std.proofs.lemmas.List.{map-append, take-append-drop}
+use Rattle.std.proofs.lemmas.List.{map-append, replicate-append-replicate, take-append-drop}
 use Rattle.std.proofs.Math.Seq.{take-append-add, drop-append-add}
 use Rattle.tv_base.specs.declared.Why.{Why}
 use Rattle.tv_journal.specs.declared.Entry.{Entry}
+use Rattle.tv_journal.specs.declared.Entry.TheVariants as entry
 use Rattle.tv_journal.specs.declared.record.EndLine.{EndLine}
 use Rattle.tv_journal.specs.declared.record.Record.{Record}
 use Rattle.tv_journal.specs.Entries.{entries_in, entries_of, records_of}
@@ -16,10 +17,11 @@ use Rattle.tv_spec.specs.Setup.{Setup, setup_of}
 use Rattle.tv_spec.specs.State.{State, first_state}
 use Rattle.tv_spec.specs.Step.{Move, made, ended, Can}
 use Rattle.tv_spec.proofs.Moves.{after-append, legal-append, legal-parts}
-use Rattle.tv_model.specs.Guest.{state_of, IsMade}
+use Rattle.tv_model.specs.Burst.{events_of}
+use Rattle.tv_model.specs.Guest.{state_of, AreMade, IsMade}
 use Rattle.tv_model.specs.GuestState.{GuestState}
 use Rattle.tv_model.specs.Replay.{IsFirstIllegal, entry_count}
-use Rattle.tv_model.specs.Replaying.{AreMade, StopsAmong, HasCause, HasLeft, due, not_due, closer}
+use Rattle.tv_model.specs.Replaying.{StopsAmong, HasCause, HasLeft, due, not_due, closer}
 
 -- a run with such an entry or end is not legal
 pub first-illegal : (machine : Machine) (image : List ℕ) (entries : List Entry) (outer : Option (ℕ × Why)) (n : ℕ) → IsFirstIllegal machine image entries outer n
@@ -163,3 +165,10 @@ border-place rs (Some (place, cause)) border =
     let all : length (entries_of (take border.before rs)) + length (entries_of (drop border.before rs)) ≡ length (entries_of rs) =
     sym (length-append (entries_of (take border.before rs)) (entries_of (drop border.before rs))) ∙ ap length (entries-parts border.before rs) in
     omega (arith, border.place_is)
+
+-- events of a hart, and more of them
+pub made-events : (old mid new : GuestState) (hart n more total : ℕ) → AreMade old mid (events_of hart n) → AreMade mid new (events_of hart more) → total ≡ n + more → AreMade old new (events_of hart total)
+made-events old mid new hart n more total before later total_is =
+    let all : events_of hart n ++ events_of hart more ≡ events_of hart total =
+    replicate-append-replicate n more (made (entry.Hart hart)) ∙ ap (events_of hart) (sym total_is) in
+    subst (AreMade old new) all (made-append old mid new (events_of hart n) (events_of hart more) before later)

@@ -1,18 +1,18 @@
 -- A guest's machine, and the monitor's state that it is.
-use Rattle.std.specs.Prelude.{◌≡◌, ℕ, ◌<◌, ◌≤◌, List, length, Option, Some, None, Bool, true, false}
+use Rattle.std.specs.Prelude.{◌≡◌, ℕ, ◌<◌, ◌≤◌, List, length, None, Bool, true, false}
 use Rattle.std.specs.List.{slice_index_or, AllByRecursion}
 use Rattle.tv_hart.specs.declared.Did.TheVariants as did
 use Rattle.tv_hart.specs.Hart.{first_hart}
 use Rattle.tv_hart.specs.HartState.{HartState}
-use Rattle.tv_journal.specs.declared.Entry.TheVariants as entry
 use Rattle.tv_spec.specs.declared.Mode.{Mode}
 use Rattle.tv_spec.specs.declared.Mode.TheVariants as mode
 use Rattle.tv_spec.specs.declared.Shown.{Shown}
 use Rattle.tv_spec.specs.declared.Shown.TheVariants as shown
 use Rattle.tv_machine_file.specs.declared.machine.Machine.{Machine}
+use Rattle.tv_spec.specs.Legal.{IsLegal, after}
 use Rattle.tv_spec.specs.Setup.{setup_of}
 use Rattle.tv_spec.specs.State.{State, first_state}
-use Rattle.tv_spec.specs.Step.{Move, made, Can, done, event_of}
+use Rattle.tv_spec.specs.Step.{Move, Can, done, event_of}
 use Rattle.tv_model.specs.GuestState.{GuestState}
 
 -- a hart that waits for no load
@@ -36,6 +36,12 @@ pub record IsMade (old new : GuestState) (move : Move) : Type 0 where
   pub setup : new.setup ≡ old.setup
   pub state : state_of new ≡ done old.setup (state_of old) move
 
+-- moves were made one after the other
+pub record AreMade (old new : GuestState) (moves : List Move) : Type 0 where
+  pub legal : IsLegal old.setup (state_of old) moves
+  pub setup : new.setup ≡ old.setup
+  pub state : state_of new ≡ after old.setup (state_of old) moves
+
 -- a move may not stand, and nothing was changed
 pub record IsBarred (old new : GuestState) (move : Move) : Type 0 where
   pub cannot : ¬ Can old.setup (state_of old) move
@@ -45,11 +51,6 @@ pub record IsBarred (old new : GuestState) (move : Move) : Type 0 where
 abbrev pub IsAnswered : GuestState → GuestState → Move → Bool → Type 0
 IsAnswered old new move true = IsMade old new move
 IsAnswered old new move false = IsBarred old new move
-
--- an event of a hart by the answer to it, which is what the event showed
-abbrev pub IsStepped : GuestState → GuestState → ℕ → Option Shown → Type 0
-IsStepped old new hart None = IsBarred old new (made (entry.Hart hart))
-IsStepped old new hart (Some shown) = IsMade old new (made (entry.Hart hart)) × (shown ≡ (event_of (state_of old) hart).2.shown)
 
 -- its harts wait for nothing, nothing is shown between events, and a run that goes on is below its limit
 pub record IsGuest (harts : List HartState) (seen : Shown) (now : Mode) (events steps : ℕ) : Type 0 where

@@ -1,3 +1,4 @@
+pub mod Burst
 pub mod Guest
 pub mod GuestState
 pub mod Monitor

@@ -7,14 +7,8 @@ use Rattle.tv_spec.specs.Legal.{IsLegal, after}
 use Rattle.tv_spec.specs.Step.{Move, made, ended, Can}
 use Rattle.tv_model.specs.declared.monitor.StepFault.{StepFault}
 use Rattle.tv_model.specs.declared.monitor.StepFault.TheVariants as step_fault
-use Rattle.tv_model.specs.Guest.{state_of}
+use Rattle.tv_model.specs.Guest.{state_of, AreMade}
 use Rattle.tv_model.specs.GuestState.{GuestState}
-
--- moves were made one after the other
-pub record AreMade (old new : GuestState) (moves : List Move) : Type 0 where
-  pub legal : IsLegal old.setup (state_of old) moves
-  pub setup : new.setup ≡ old.setup
-  pub state : state_of new ≡ after old.setup (state_of old) moves
 
 -- an entry was made a few times, and may not stand once more
 pub record StopsAmong (old : GuestState) (entry : Entry) (count : ℕ) : Type 0 where

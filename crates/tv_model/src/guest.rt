@@ -1,17 +1,19 @@
 //! A guest's machine: harts, memory and time, which move by the entries of a journal.
 
-ghost use Rattle.std.specs.Prelude.{◌≡◌, ◌≢◌, ◌<◌, ◌≤◌, ◌↔◌, IsTrue, None, IfOk, IfNone, length};
+ghost use Rattle.std.specs.Prelude.{◌≡◌, ◌≢◌, ◌<◌, ◌≤◌, ◌↔◌, IsTrue, None, IfOk, length};
 ghost use Rattle.tv_machine_file.specs.Valid.{IsValid};
 ghost use Rattle.tv_journal.specs.Grammar.{cause_byte};
 ghost use Rattle.tv_journal.specs.declared.Entry.TheVariants as entry;
 ghost use Rattle.tv_spec.specs.Step.{made, ended, mode_by, end_at, end_shown};
-ghost use Rattle.tv_model.specs.Guest.{IsAnswered, IsStepped, IsUnbuilt, IsFirst, AreFirst, state_of};
+ghost use Rattle.tv_model.specs.Guest.{IsAnswered, IsFirst, AreFirst, state_of};
+ghost use Rattle.tv_model.specs.Burst.{IsBurstOf};
 
+use crate::burst::run_events;
 use crate::local::Local;
 use std::alloc::Global;
 use std::marker::Model;
 use tv_base::{HartNo, Memory, RAM_BASE, Why};
-use tv_hart::{Did, Hart};
+use tv_hart::Hart;
 use tv_intc::Finish;
 use tv_machine_file::Machine;
 use tv_ram::Ram;
@@ -95,27 +97,25 @@ impl Guest {
         }
     }
 
-    /// An event of a hart, and what it showed outside memory; `None` exactly where no event of it may stand, and nothing
-    /// is changed then.
-    #[inline(always)]
-    pub fn hart_event(&mut self, hart: HartNo) -> Option<Shown>
-        ensures stepped { IsStepped self.old self.new hart result }
-        ensures unbuilt { IfNone result (IsUnbuilt self.old hart) }
+    /// A burst: up to so many events of a hart, and what the last one showed outside memory. It is shorter where an event
+    /// showed something or ended the run, and before one that may not stand; none was made exactly where that is the first
+    /// one or `most` is 0, and nothing is changed then.
+    pub fn burst(&mut self, hart: HartNo, most: u32) -> (u32, Shown)
+        ensures { IsBurstOf self.old self.new hart most result.0 result.1 }
     {
         let number = usize::from(hart.get());
         if number >= self.harts.len() || !is_running(self.mode) {
-            return None;
+            return (0, Shown::Nothing);
         }
-        match self.harts[number].step(&mut self.local) {
-            Did::Retired => {}
-            Did::Held | Did::Full => unreachable!(),
-            Did::Unbuilt => return None,
+        let left = self.steps - self.events;
+        let made = run_events(&mut self.harts[number], &mut self.local, most.min(left));
+        if made.0 == 0 {
+            return made;
         }
-        let shown = self.local.take_shown();
-        self.events += 1;
+        self.events += made.0;
         self.ticked = false;
-        self.mode = mode_after(shown, self.events == self.steps);
-        Some(shown)
+        self.mode = mode_after(made.1, self.events == self.steps);
+        made
     }
 
     /// A tick: time goes on by `n`. False exactly where no such tick may stand, and nothing is changed then.

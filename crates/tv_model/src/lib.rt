@@ -1,6 +1,7 @@
 //! The in-process monitor: it makes the entries of a journal one after the other, and refuses what has no step.
 #![tactic(auto)]
 
+mod burst;
 mod guest;
 mod local;
 mod monitor;

@@ -1,16 +1,16 @@
 //! The in-process monitor, which makes the entries of a run one after the other.
 
-ghost use Rattle.std.specs.Prelude.{◌≡◌, ◌≢◌, ◌≤◌, ◌+◌, ◌++◌, None, [], IfOk, length, vec_len, vec_capacity};
+ghost use Rattle.std.specs.Prelude.{◌≡◌, ◌≢◌, ◌<◌, ◌≤◌, ◌+◌, ◌++◌, None, [], IfOk, length, vec_len, vec_capacity};
 ghost use Rattle.tv_spec.specs.Shows.{byte_shown, exit_status};
 ghost use Rattle.tv_journal.specs.Grammar.{cause_byte};
 ghost use Rattle.tv_machine_file.specs.Valid.{IsValid};
 ghost use Rattle.tv_model.specs.Guest.{IsFirst};
-ghost use Rattle.tv_model.specs.Monitor.{StepsSo, EndsSo, status_of};
+ghost use Rattle.tv_model.specs.Monitor.{StepsSo, BurstsSo, EndsSo, status_of};
 
 use crate::guest::Guest;
 use std::alloc::Global;
 use std::marker::Model;
-use tv_base::{Memory, Why};
+use tv_base::{HartNo, Memory, Why};
 use tv_journal::Entry;
 use tv_machine_file::Machine;
 use tv_spec::{Mode, Shown};
@@ -64,20 +64,10 @@ impl Monitor {
         ensures { StepsSo self.old self.new entry.now result }
     {
         match *entry {
-            Entry::Hart(hart) => {
-                // The byte that the event may show gets its place first.
-                match self.console.reserve(1) {
-                    Ok(()) => {}
-                    Err(_) => return Err(StepFault::Memory),
-                }
-                match self.guest.hart_event(hart) {
-                    Some(shown) => {
-                        show(&mut self.console, shown);
-                        Ok(())
-                    }
-                    None => Err(StepFault::Illegal),
-                }
-            }
+            Entry::Hart(hart) => match self.burst(hart, 1) {
+                Ok(_) => Ok(()),
+                Err(fault) => Err(fault),
+            },
             Entry::Tick(n) => {
                 if self.guest.tick(n) {
                     Ok(())
@@ -86,6 +76,28 @@ impl Monitor {
                 }
             }
         }
+    }
+
+    /// Makes a burst of up to `most` events of a hart, and answers how many they are, at least 1. Nothing is changed where
+    /// none is made.
+    ///
+    /// # Errors
+    /// `Illegal` exactly where the monitor has no such step, or want of memory.
+    pub fn burst(&mut self, hart: HartNo, most: u32) -> Result<u32, StepFault>
+        requires { 0 < most }
+        ensures { BurstsSo self.old self.new hart most result }
+    {
+        // The byte that the last event may show gets its place first.
+        match self.console.reserve(1) {
+            Ok(()) => {}
+            Err(_) => return Err(StepFault::Memory),
+        }
+        let (made, shown) = self.guest.burst(hart, most);
+        if made == 0 {
+            return Err(StepFault::Illegal);
+        }
+        show(&mut self.console, shown);
+        Ok(made)
     }
 
     /// Makes an end that no entry made. False exactly where the run ended before; nothing is changed then.

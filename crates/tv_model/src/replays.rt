@@ -11,7 +11,7 @@ ghost use Rattle.tv_model.specs.Replaying.{StepsOften, EndsDue, HasCause, HasLef
 
 use crate::monitor::{Monitor, StepFault};
 use std::alloc::Global;
-use tv_base::{Memory, Why};
+use tv_base::{HartNo, Memory, Why};
 use tv_journal::{Entry, Journal};
 use tv_machine_file::Machine;
 
@@ -66,6 +66,30 @@ pub fn replay(
 
 /// Makes an entry so often.
 fn step_often(monitor: &mut Monitor, entry: &Entry, count: u32) -> Result<(), StepFault>
+    ensures { StepsOften monitor.old.guest monitor.new.guest entry.now count result }
+{
+    match *entry {
+        Entry::Hart(hart) => step_events(monitor, hart, count),
+        Entry::Tick(_) => step_each(monitor, entry, count),
+    }
+}
+
+/// Makes so many events of a hart.
+fn step_events(monitor: &mut Monitor, hart: HartNo, count: u32) -> Result<(), StepFault>
+    ensures { StepsOften monitor.old.guest monitor.new.guest (Entry.Hart hart) count result }
+{
+    let mut left = count;
+    while left > 0 {
+        match monitor.burst(hart, left) {
+            Ok(made) => left -= made,
+            Err(fault) => return Err(fault),
+        }
+    }
+    Ok(())
+}
+
+/// Makes an entry so often, each time by itself.
+fn step_each(monitor: &mut Monitor, entry: &Entry, count: u32) -> Result<(), StepFault>
     ensures { StepsOften monitor.old.guest monitor.new.guest entry.now count result }
 {
     for _time in 0..count {

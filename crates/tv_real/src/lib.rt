@@ -9,12 +9,14 @@ mod read;
 mod sink;
 mod source;
 mod store;
+mod streams;
 
 pub use disk::FileDisk;
 pub use entropy::SystemEntropy;
 pub use sink::WriterSink;
 pub use source::FileSource;
 pub use store::FileStore;
+pub use streams::{Streams, hold_streams};
 
 /// How often an operation goes on after an interruption.
 const RETRIES: usize = 64;

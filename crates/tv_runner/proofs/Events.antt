@@ -1,19 +1,16 @@
--- An event of the engine is that of the schedule.
-use Rattle.std.proofs.Common.{◌≡◌, ℕ, Bool, true, false, List, [], ◌∷◌, ◌++◌, Option, None, refl, ap, sym, ◌∙◌, subst, append_assoc, append-nil, arith}
-use Rattle.tv_hart.specs.declared.Did.TheVariants as did
+-- A tick of the engine is that of the schedule.
+use Rattle.std.proofs.Common.{◌≡◌, ℕ, Bool, true, false, List, [], ◌∷◌, ◌++◌, Option, None, refl, ap, sym, ◌∙◌, subst, append-nil, arith}
 use Rattle.tv_journal.specs.declared.Entry.TheVariants as entry
 use Rattle.tv_journal.specs.Journals.{JournalState, has_room}
 use Rattle.tv_model.specs.Guest.{state_of, IsMade, IsAnswered}
 use Rattle.tv_model.specs.GuestState.{GuestState}
 use Rattle.tv_spec.specs.declared.Mode.{Mode}
 use Rattle.tv_spec.specs.declared.Mode.TheVariants as mode
-use Rattle.tv_spec.specs.declared.Shown.{Shown}
 use Rattle.tv_spec.specs.declared.Stop.{Stop}
-use Rattle.tv_spec.specs.Shows.{byte_shown}
 use Rattle.tv_spec.specs.SoFar.{IsSoFar}
-use Rattle.tv_spec.specs.Solo.{makes, stopped_by, solo_event, solo_tick}
+use Rattle.tv_spec.specs.Solo.{makes, stopped_by, solo_tick}
 use Rattle.tv_spec.specs.State.{State}
-use Rattle.tv_spec.specs.Step.{made, done, event_of}
+use Rattle.tv_spec.specs.Step.{made, done}
 use Rattle.tv_spec.proofs.SoFar.{so_far-more}
 use Rattle.tv_runner.specs.Parts.{Held, solo_at, IsPart, StopsIn}
 
@@ -22,43 +19,6 @@ pub stops-in : (now : Mode) → StopsIn (stopped_by now) now
 stops-in mode.Running = refl
 stops-in (mode.Ending cause) = refl
 
--- the run so far with the event is the one that the schedule makes
-pub event-made : (g later : GuestState) (journal kept : JournalState) (bytes shown_bytes : List ℕ) (hart : ℕ) (shown : Shown) (before : List ℕ)
-    → IsMade g later (made (entry.Hart hart)) → shown ≡ (event_of (state_of g) hart).2.shown → kept ≡ record journal { entries = journal.entries ++ entry.Hart hart ∷ [] }
-    → shown_bytes ≡ bytes ++ byte_shown shown
-    → makes g.setup (solo_at (record { guest = g; journal = journal; bytes = bytes }) before) (entry.Hart hart)
-    ≡ solo_at (record { guest = later; journal = kept; bytes = shown_bytes }) before
-event-made g later journal kept bytes shown_bytes hart shown before is shown_is kept_is bytes_is =
-    let state_same : done g.setup (state_of g) (made (entry.Hart hart)) ≡ state_of later = sym is.state in
-    let entries_same : journal.entries ++ entry.Hart hart ∷ [] ≡ kept.entries = ap (λ (j : JournalState). j.entries) (sym kept_is) in
-    let bytes_same : (before ++ bytes) ++ byte_shown (event_of (state_of g) hart).2.shown ≡ before ++ shown_bytes =
-    append_assoc before bytes (byte_shown (event_of (state_of g) hart).2.shown)
-    ∙ ap (λ (s : Shown). before ++ (bytes ++ byte_shown s)) (sym shown_is) ∙ ap (λ (xs : List ℕ). before ++ xs) (sym bytes_is) in
-    λ i. record { state = state_same i; entries = entries_same i; bytes = bytes_same i }
-
-pub event-part : (g later : GuestState) (journal kept : JournalState) (bytes shown_bytes : List ℕ) (hart : ℕ) (shown : Shown) (result : Option Stop)
-    → IsMade g later (made (entry.Hart hart)) → shown ≡ (event_of (state_of g) hart).2.shown → has_room journal (entry.Hart hart) ≡ true
-    → kept ≡ record journal { entries = journal.entries ++ entry.Hart hart ∷ [] } → shown_bytes ≡ bytes ++ byte_shown shown → result ≡ stopped_by later.mode
-    → IsPart (solo_event g.setup journal.record_room hart) (record { guest = g; journal = journal; bytes = bytes }) (record { guest = later; journal = kept; bytes = shown_bytes }) result
-event-part g later journal kept bytes shown_bytes hart shown result is shown_is room kept_is bytes_is result_is =
-    let old : Held = record { guest = g; journal = journal; bytes = bytes } in
-    let new : Held = record { guest = later; journal = kept; bytes = shown_bytes } in
-    let carried : (event_of (state_of g) hart).0 ≡ did.Retired = is.can.carried in
-    record {
-      made = λ (before : List ℕ).
-          let made_is = event-made g later journal kept bytes shown_bytes hart shown before is shown_is kept_is bytes_is in
-          let stop_is : stopped_by (done g.setup (state_of g) (made (entry.Hart hart))).mode ≡ result = ap (λ (s : State). stopped_by s.mode) (sym is.state) ∙ sym result_is in
-          sym (rw (room, carried) (λ i. (made_is i, stop_is i)));
-      so_far = λ (first : State) (before : List ℕ) (so_far : IsSoFar g.setup first (solo_at old before)).
-          subst (IsSoFar g.setup first) (event-made g later journal kept bytes shown_bytes hart shown before is shown_is kept_is bytes_is)
-          (so_far-more g.setup first (solo_at old before) (entry.Hart hart) so_far is.can);
-      setup = is.setup;
-      room = ap (λ (j : JournalState). j.record_room) kept_is;
-      outer = ap (λ (j : JournalState). j.outer) kept_is;
-      mode_is = rw result_is (stops-in later.mode);
-    }
-
--- and so is a tick
 pub tick-made : (g later : GuestState) (journal kept : JournalState) (bytes : List ℕ) (before : List ℕ)
     → IsMade g later (made (entry.Tick 64)) → kept ≡ record journal { entries = journal.entries ++ entry.Tick 64 ∷ [] }
     → makes g.setup (solo_at (record { guest = g; journal = journal; bytes = bytes }) before) (entry.Tick 64)

@@ -4,7 +4,7 @@ use Rattle.tv_spec.specs.declared.Mode.TheVariants as mode
 use Rattle.tv_spec.specs.declared.Stop.{Stop}
 use Rattle.tv_spec.specs.SoFar.{IsSoFar}
 use Rattle.tv_spec.specs.Setup.{Setup}
-use Rattle.tv_spec.specs.Solo.{Solo, Going, onward, solo_event, turn, turns}
+use Rattle.tv_spec.specs.Solo.{Solo, Going, onward, turn, turns}
 use Rattle.tv_spec.specs.State.{State}
 use Rattle.tv_runner.specs.Parts.{Held, solo_at, IsPart}
 
@@ -57,12 +57,7 @@ on-end whole rest old now on over = record {
   mode_is = on.runs;
 }
 
--- a turn with an event left
-pub turn-split : (old now : Setup) (old_room room hart left after : ℕ) (solo : Solo) → now ≡ old → room ≡ old_room → left ≡ suc after
-    → turn old old_room hart left solo ≡ onward (turn old old_room hart after) (solo_event now room hart solo)
-unfolding turn
-turn-split old now old_room room hart left after solo setup_is room_is left_is = rw (setup_is, room_is, left_is) refl
-
+-- a turn with no event left
 pub turn-over : (setup : Setup) (room hart left : ℕ) (solo : Solo) → left ≡ 0 → turn setup room hart left solo ≡ (solo, None)
 unfolding turn
 turn-over setup room hart left solo over = rw over refl

@@ -1,5 +1,5 @@
 -- The engine of runs on one thread, part by part: what it holds is a run so far, and each part is that of the schedule.
-use Rattle.std.specs.Prelude.{◌≡◌, ℕ, ◌+◌, ◌*◌, ◌<◌, ◌≤◌, false, ◌++◌, List, length, Option, Some, IfNone}
+use Rattle.std.specs.Prelude.{◌≡◌, ℕ, ◌+◌, ◌*◌, ◌<◌, ◌≤◌, false, ◌++◌, List, length, Option, Some, None, IfNone, Result, Ok, Err}
 use Rattle.tv_journal.specs.Journals.{JournalState}
 use Rattle.tv_model.specs.Guest.{state_of}
 use Rattle.tv_model.specs.GuestState.{GuestState}
@@ -8,7 +8,7 @@ use Rattle.tv_spec.specs.declared.Mode.TheVariants as mode
 use Rattle.tv_spec.specs.declared.Stop.{Stop}
 use Rattle.tv_spec.specs.declared.Stop.TheVariants as stop
 use Rattle.tv_spec.specs.SoFar.{IsSoFar}
-use Rattle.tv_spec.specs.Solo.{Solo, Going}
+use Rattle.tv_spec.specs.Solo.{Solo, Going, turn}
 use Rattle.tv_spec.specs.State.{State}
 
 -- what the engine holds: the machine, the journal, and the bytes of the round
@@ -44,6 +44,19 @@ pub record IsWithin (most : ℕ) (old new : Held) (result : Option Stop) : Type 
   pub all : IfNone result (new.guest.events ≡ old.guest.events + most)
   pub unticked : IfNone result (0 < most → new.guest.ticked ≡ false)
   pub limit : IfNone result (old.guest.events < old.guest.setup.steps → new.guest.events < old.guest.setup.steps)
+
+-- some events of a hart were made, of up to so many, and the run goes on
+pub record IsOnward (hart left made : ℕ) (old new : Held) : Type 0 where
+  pub some : 0 < made
+  pub few : made ≤ left
+  pub part : IsPart (turn old.guest.setup old.journal.record_room hart made) old new None
+  pub within : IsWithin made old new None
+
+-- a burst of up to so many events of a hart by what it came to; where the run stopped, no more would have come of all of them
+abbrev pub BurstsSo : ℕ → ℕ → Held → Held → Result ℕ Stop → Type 0
+BurstsSo hart left old new (Ok made) = IsOnward hart left made old new
+BurstsSo hart left old new (Err stopped) =
+    IsPart (turn old.guest.setup old.journal.record_room hart left) old new (Some stopped) × IsWithin left old new (Some stopped)
 
 -- a round made at most an entry more than events; where the run goes on, it made some
 pub record IsRoundWithin (old new : GuestState) (journal kept : JournalState) (result : Option Stop) : Type 0 where

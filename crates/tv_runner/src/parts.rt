@@ -1,10 +1,10 @@
 //! The parts of a round.
 
-ghost use Rattle.std.specs.Prelude.{false, ◌≡◌, ◌<◌, ◌≤◌, ◌+◌, ◌-◌, ◌*◌, ◌^◌, ◌++◌, ◌∷◌, [], None, IsTrue, length};
+ghost use Rattle.std.specs.Prelude.{false, ◌≡◌, ◌<◌, ◌≤◌, ◌+◌, ◌-◌, ◌*◌, ◌^◌, ◌++◌, ◌∷◌, [], None, IsTrue, length, replicate};
 ghost use Rattle.tv_journal.specs.Journals.{has_room, IsEntry, MayFollow};
 ghost use Rattle.tv_spec.specs.Shows.{byte_shown};
-ghost use Rattle.tv_spec.specs.Solo.{solo_event, stopped_by, turn, turns, solo_tick, round};
-ghost use Rattle.tv_runner.specs.Parts.{IsPart, IsWithin, IsRoundWithin};
+ghost use Rattle.tv_spec.specs.Solo.{turn, turns, solo_tick, round};
+ghost use Rattle.tv_runner.specs.Parts.{BurstsSo, IsPart, IsWithin, IsRoundWithin};
 
 use arrayvec::ArrayVec;
 use tv_base::HartNo;
@@ -18,32 +18,37 @@ const TURN: u32 = 64;
 /// The debug bytes of a round: at most 64 of each of 8 harts.
 pub type Ring = ArrayVec<u8, 512>;
 
-/// An event of a hart; the answer says whether the run stops there.
+/// A burst of events of a hart, of up to so many; how many were made where the run goes on, at least 1, or else the stop.
 #[inline(always)]
-fn event(guest: &mut Guest, journal: &mut Journal, bytes: &mut Ring, hart: HartNo) -> Option<Stop>
+fn burst(
+    guest: &mut Guest,
+    journal: &mut Journal,
+    bytes: &mut Ring,
+    hart: HartNo,
+    left: u32,
+) -> Result<u32, Stop>
     requires exists { hart < guest.old.setup.harts }
     requires runs { guest.old.mode ≡ Mode.Running }
-    requires few { length journal.old.entries < 2 ^ 32 - 1 }
-    requires ring { length bytes.old.items < 512 }
+    requires some { 0 < left }
+    requires few { length journal.old.entries + left < 2 ^ 32 }
+    requires ring { length bytes.old.items + left ≤ 512 }
     requires open { journal.old.outer ≡ None }
-    ensures part { IsPart (solo_event guest.old.setup journal.old.record_room hart)
-        (record { guest = guest.old; journal = journal.old; bytes = bytes.old.items })
-        (record { guest = guest.new; journal = journal.new; bytes = bytes.new.items }) result }
-    ensures within { IsWithin 1
+    ensures { BurstsSo hart left
         (record { guest = guest.old; journal = journal.old; bytes = bytes.old.items })
         (record { guest = guest.new; journal = journal.new; bytes = bytes.new.items }) result }
 {
-    let entry = Entry::Hart(hart);
-    if !journal.has_room(&entry) {
-        return Some(Stop::Full);
+    if !journal.has_room(&Entry::Hart(hart)) {
+        return Err(Stop::Full);
     }
-    match guest.hart_event(hart) {
-        Some(shown) => {
-            keep(journal, &entry);
-            show(bytes, shown);
-            stop_in(guest.mode())
-        }
-        None => Some(Stop::Unbuilt(guest.pc(hart))),
+    let made = guest.burst(hart, left);
+    if made.0 == 0 {
+        return Err(Stop::Unbuilt(guest.pc(hart)));
+    }
+    keep_events(journal, hart, made.0);
+    show(bytes, made.1);
+    match guest.mode() {
+        Mode::Running => Ok(made.0),
+        Mode::Ending(why) => Err(Stop::Ended(why)),
     }
 }
 
@@ -61,10 +66,11 @@ fn turn(guest: &mut Guest, journal: &mut Journal, bytes: &mut Ring, hart: HartNo
         (record { guest = guest.old; journal = journal.old; bytes = bytes.old.items })
         (record { guest = guest.new; journal = journal.new; bytes = bytes.new.items }) result }
 {
-    for _made in 0..TURN {
-        match event(guest, journal, bytes, hart) {
-            Some(stop) => return Some(stop),
-            None => {}
+    let mut left = TURN;
+    while left > 0 {
+        match burst(guest, journal, bytes, hart, left) {
+            Ok(made) => left -= made,
+            Err(stop) => return Some(stop),
         }
     }
     None
@@ -151,6 +157,18 @@ fn keep(journal: &mut Journal, entry: &Entry)
     let _added = journal.push(entry);
 }
 
+/// Adds so many events of a hart, for which there is room.
+#[inline(always)]
+fn keep_events(journal: &mut Journal, hart: HartNo, count: u32)
+    requires some { 0 < count }
+    requires few { length journal.old.entries + count < 2 ^ 32 }
+    requires open { journal.old.outer ≡ None }
+    requires room { IsTrue (has_room journal.old (Entry.Hart hart)) }
+    ensures { journal.new ≡ record journal.old { entries = journal.old.entries ++ replicate count (Entry.Hart hart) } }
+{
+    let _added = journal.push_events(hart, count);
+}
+
 /// Keeps the byte that an event showed, if it showed one.
 #[inline(always)]
 fn show(bytes: &mut Ring, shown: Shown)
@@ -161,16 +179,5 @@ fn show(bytes: &mut Ring, shown: Shown)
     match shown {
         Shown::Byte(byte) => bytes.push(byte),
         Shown::Nothing | Shown::Finish(_) => {}
-    }
-}
-
-/// Why a run stops in a mode, if it does.
-#[inline(always)]
-fn stop_in(mode: Mode) -> Option<Stop>
-    ensures { result ≡ stopped_by mode }
-{
-    match mode {
-        Mode::Running => None,
-        Mode::Ending(why) => Some(Stop::Ended(why)),
     }
 }

@@ -1,20 +1,25 @@
-use Rattle.std.proofs.Common.{◌<◌, ◌≤◌, ◌-◌, leb, vec_capacity, ◌^◌, length, ap, rules}
+use Rattle.std.proofs.Common.{◌<◌, ◌≤◌, ◌-◌, leb, vec_capacity, ◌^◌, ◌∷◌, [], length, ap, rules, arith}
 use Rattle.std.proofs.lemmas.Bool.{leb-true}
 use Rattle.tv_journal.specs.Entries.{entries_of}
 use Rattle.tv_journal.specs.Grammar.{outer_of}
 use Rattle.tv_journal.specs.Journals.{JournalState, added, MayFollow}
-use Rattle.tv_journal.proofs.Kept.{can-count, kept-added, pushed-yes, pushed-no, chosen-yes}
+use Rattle.tv_journal.proofs.Added.{entries-added}
+use Rattle.tv_journal.proofs.Kept.{can-count, count-added, kept-added, pushed-yes, pushed-no, chosen-yes}
 use Rattle.tv_journal.proofs.Journal.push.Goals as goal
 
 pub add-requires-clause-few : goal.add-requires-clause-few
 add-requires-clause-few c =
-    can-count c.self.inside.records.items (rw (ap (λ (j : JournalState). length j.entries) c.self.view_is) c.requires.few)
+    let few : length (entries_of c.self.inside.records.items) < 2 ^ 32 - 1 = rw (ap (λ (j : JournalState). length j.entries) c.self.view_is) c.requires.few in
+    can-count c.self.inside.records.items 1 (omega arith)
 
 pub returns-then-not-add : goal.returns-then-not-add
 returns-then-not-add c =
+    let rs = c.self.inside.records.items in
+    let few : length (entries_of rs) < 2 ^ 32 - 1 = rw (ap (λ (j : JournalState). length j.entries) c.self.view_is) c.requires.few in
     rw (← c.self.view_is)
-    (pushed-no c.self.inside.records.items c.add.new.records.items c.self.inside.end c.self.inside.events c.self.inside.record_room _ c.self.inside.payload_room c.args.entry.now
-    c.self.invariant (rw (ap (λ (j : JournalState). length j.entries) c.self.view_is) c.requires.few) c.add.ensures.fits c.requires.entry c.if-not-add.ensures.added)
+    (pushed-no rs (added rs c.args.entry.now) c.add.new.records.items c.self.inside.end c.self.inside.record_room c.self.inside.payload_room (c.args.entry.now ∷ [])
+    (count-added rs c.self.inside.end c.self.inside.events c.self.inside.record_room _ c.args.entry.now c.self.invariant few c.add.ensures.fits c.requires.entry)
+    c.if-not-add.ensures.added)
 
 pub invariant_of-self-2 : goal.invariant_of-self-2
 invariant_of-self-2 c =
@@ -29,6 +34,10 @@ invariant_of-self-2 c =
 
 pub returns : goal.returns
 returns c =
+    let rs = c.self.inside.records.items in
+    let few : length (entries_of rs) < 2 ^ 32 - 1 = rw (ap (λ (j : JournalState). length j.entries) c.self.view_is) c.requires.few in
     rw (← c.self.view_is)
-    (pushed-yes c.self.inside.records.items c.add.new.records.items c.self.inside.end c.self.inside.events c.self.inside.record_room _ c.self.inside.payload_room c.args.entry.now
-    c.self.invariant (rw (ap (λ (j : JournalState). length j.entries) c.self.view_is) c.requires.few) c.add.ensures.fits c.requires.entry c.if-not-add.ensures.added)
+    (pushed-yes rs (added rs c.args.entry.now) c.add.new.records.items c.self.inside.end c.self.inside.record_room c.self.inside.payload_room (c.args.entry.now ∷ [])
+    (entries-added rs c.args.entry.now)
+    (count-added rs c.self.inside.end c.self.inside.events c.self.inside.record_room _ c.args.entry.now c.self.invariant few c.add.ensures.fits c.requires.entry)
+    c.if-not-add.ensures.added)

@@ -1,15 +1,19 @@
-use Rattle.std.specs.Prelude.{◌-◌, None}
+use Rattle.std.specs.Prelude.{◌-◌, ◌≤◌, None}
 use Rattle.tv_spec.specs.Solo.{turn}
 use Rattle.tv_runner.proofs.On.{IsOn}
 use Rattle.tv_runner.specs.Parts.{Held, IsWithin}
 use Rattle.tv_runner.proofs.parts.turn.Given as goal
 
 -- the events so far, and those that are left
-abbrev pub invariant-loop-made : goal.invariant-loop-made
-invariant-loop-made l =
+abbrev pub invariant-loop-left : goal.invariant-loop-left
+invariant-loop-left l =
     let old : Held = record { guest = l.fn.guest; journal = l.fn.journal; bytes = l.fn.bytes.items } in
     let now : Held = record { guest = l.guest; journal = l.journal; bytes = l.bytes.items } in
     record {
-      on : IsOn (turn l.fn.guest.setup l.fn.journal.record_room l.hart 64) (turn l.fn.guest.setup l.fn.journal.record_room l.hart (64 - l._made)) old now;
-      within : IsWithin l._made old now None;
+      few : l.left ≤ 64;
+      on : IsOn (turn l.fn.guest.setup l.fn.journal.record_room l.hart 64) (turn l.fn.guest.setup l.fn.journal.record_room l.hart l.left) old now;
+      within : IsWithin (64 - l.left) old now None;
     }
+
+abbrev pub decreases-loop-left : goal.decreases-loop-left
+decreases-loop-left l = l.left

@@ -1,7 +1,7 @@
 use Rattle.std.proofs.Common.{replicate}
 use Rattle.tv_spec.specs.Step.{made}
-use Rattle.tv_model.specs.Replaying.{AreMade}
-use Rattle.tv_model.proofs.replays.step_often.Given as goal
+use Rattle.tv_model.specs.Guest.{AreMade}
+use Rattle.tv_model.proofs.replays.step_each.Given as goal
 
 -- the entry was made so often
 abbrev pub invariant-loop-time : goal.invariant-loop-time

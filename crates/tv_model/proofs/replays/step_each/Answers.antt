@@ -1,5 +1,5 @@
 use Rattle.tv_model.proofs.Stepping.{made-again}
-use Rattle.tv_model.proofs.replays.step_often.Goals as goal
+use Rattle.tv_model.proofs.replays.step_each.Goals as goal
 
 pub loop-time-preserved : goal.loop-time-preserved
 loop-time-preserved c =

@@ -1,0 +1,12 @@
+use Rattle.std.proofs.Common.{◌-◌, arith}
+use Rattle.tv_model.proofs.Stepping.{made-events}
+use Rattle.tv_model.proofs.replays.step_events.Goals as goal
+
+pub loop-left-preserved : goal.loop-left-preserved
+loop-left-preserved c =
+    let done = c.args.count - c.loop-left.left in
+    record {
+      few = omega (arith, c.loop-left.invariant.few);
+      made = made-events c.args.monitor.now.guest c.loop-left.monitor.guest c.burst.new.self.guest c.args.hart done c.in-Ok.made (c.args.count - (c.loop-left.left - c.in-Ok.made))
+          c.loop-left.invariant.made c.in-Ok.ensures.moves (omega (arith, c.loop-left.invariant.few, c.in-Ok.ensures.few));
+    }
