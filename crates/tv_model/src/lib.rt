@@ -8,7 +8,7 @@ mod monitor;
 mod replays;
 
 pub use guest::Guest;
-pub use monitor::{Monitor, StepFault};
+pub use monitor::{Monitor, StepFault, exit_status};
 pub use replays::{Replayed, no_legal_run_is_refused, replay};
 
 #[cfg(test)]

@@ -121,7 +121,7 @@ impl Monitor {
     {
         match self.guest.mode() {
             Mode::Running => None,
-            Mode::Ending(why) => Some(status_by(why)),
+            Mode::Ending(why) => Some(exit_status(why)),
         }
     }
 }
@@ -140,8 +140,8 @@ fn show(console: &mut Vec<u8>, shown: Shown)
     }
 }
 
-/// The exit status of a run by its cause.
-fn status_by(why: Why) -> u8
+/// The exit status of a run by the cause of its end.
+pub fn exit_status(why: Why) -> u8
     ensures { result ≡ exit_status why }
 {
     match why {

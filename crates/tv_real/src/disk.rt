@@ -13,7 +13,8 @@ use tv_out::Disk;
 /// Bytes of a sector.
 const SECTOR_BYTES: u64 = 512;
 
-/// The whole sectors of a file, as many as it had when it was opened. It tells their number and its count of faults.
+/// The whole sectors of a file: as many as it had when it was opened, or as it was given since. It tells their number and
+/// its count of faults.
 #[derive(Drop)]
 pub struct FileDisk<F> {
     file: F,

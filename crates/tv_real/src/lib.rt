@@ -18,7 +18,7 @@ pub use source::FileSource;
 pub use store::FileStore;
 pub use streams::{Streams, hold_streams};
 
-/// How often an operation goes on after an interruption.
+/// How often a read is tried, and how much more often a put is than it has bytes: tries that were interrupted count.
 const RETRIES: usize = 64;
 
 #[cfg(test)]

@@ -52,10 +52,10 @@ pub record IsOnward (hart left made : ℕ) (old new : Held) : Type 0 where
   pub part : IsPart (turn old.guest.setup old.journal.record_room hart made) old new None
   pub within : IsWithin made old new None
 
--- a burst of up to so many events of a hart by what it came to; where the run stopped, no more would have come of all of them
-abbrev pub BurstsSo : ℕ → ℕ → Held → Held → Result ℕ Stop → Type 0
-BurstsSo hart left old new (Ok made) = IsOnward hart left made old new
-BurstsSo hart left old new (Err stopped) =
+-- what a burst of up to so many events of a hart came to; where the run stopped, a turn of all of them stops just there
+abbrev pub BurstComesTo : ℕ → ℕ → Held → Held → Result ℕ Stop → Type 0
+BurstComesTo hart left old new (Ok made) = IsOnward hart left made old new
+BurstComesTo hart left old new (Err stopped) =
     IsPart (turn old.guest.setup old.journal.record_room hart left) old new (Some stopped) × IsWithin left old new (Some stopped)
 
 -- a round made at most an entry more than events; where the run goes on, it made some

@@ -4,7 +4,7 @@ ghost use Rattle.std.specs.Prelude.{false, ◌≡◌, ◌<◌, ◌≤◌, ◌+�
 ghost use Rattle.tv_journal.specs.Journals.{has_room, IsEntry, MayFollow};
 ghost use Rattle.tv_spec.specs.Shows.{byte_shown};
 ghost use Rattle.tv_spec.specs.Solo.{turn, turns, solo_tick, round};
-ghost use Rattle.tv_runner.specs.Parts.{BurstsSo, IsPart, IsWithin, IsRoundWithin};
+ghost use Rattle.tv_runner.specs.Parts.{BurstComesTo, IsPart, IsWithin, IsRoundWithin};
 
 use arrayvec::ArrayVec;
 use tv_base::HartNo;
@@ -33,7 +33,7 @@ fn burst(
     requires few { length journal.old.entries + left < 2 ^ 32 }
     requires ring { length bytes.old.items + left ≤ 512 }
     requires open { journal.old.outer ≡ None }
-    ensures { BurstsSo hart left
+    ensures { BurstComesTo hart left
         (record { guest = guest.old; journal = journal.old; bytes = bytes.old.items })
         (record { guest = guest.new; journal = journal.new; bytes = bytes.new.items }) result }
 {

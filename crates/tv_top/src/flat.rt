@@ -4,15 +4,15 @@ ghost use Rattle.std.specs.Prelude.{◌≡◌, ◌<◌, ◌≤◌, IfOk, IfErr, 
 ghost use Rattle.std.specs.Option.{option_map};
 ghost use Rattle.tv_machine_file.specs.Valid.{IsValid};
 ghost use Rattle.tv_top.specs.Flat.{FlatGives, IsAsked, HasImage, IsAskedBoth, IsNotLoaded, SavedBy, flat_with};
-ghost use Rattle.tv_spec.specs.Shows.{exit_status};
 ghost use Rattle.tv_runner.specs.Runs.{IsRun};
 ghost use Rattle.tv_top.specs.Texts.{run_status, stop_status};
 
 use crate::refusal::Refusal;
 use std::alloc::Global;
-use tv_base::{Memory, Why};
+use tv_base::Memory;
 use tv_journal::Journal;
 use tv_machine_file::Machine;
+use tv_model::exit_status;
 use tv_out::{LoadFault, Sink, Store};
 use tv_runner::{Ran, solo};
 use tv_spec::Stop;
@@ -47,24 +47,9 @@ fn status_of(stop: Option<Stop>) -> u8
 {
     match stop {
         None => 5,
-        Some(Stop::Ended(why)) => status_of_end(why),
+        Some(Stop::Ended(why)) => exit_status(why),
         Some(Stop::Full) => 7,
         Some(Stop::Unbuilt(_)) => 15,
-    }
-}
-
-/// The exit status of a run that an event ended.
-fn status_of_end(why: Why) -> u8
-    ensures { result ≡ exit_status why }
-{
-    match why {
-        Why::PowerOff | Why::Stopped => 0,
-        Why::Failed(_) => 1,
-        Why::Lost(_) | Why::DebugLost => 5,
-        Why::Steps => 6,
-        Why::Full => 7,
-        Why::ListenFailed => 10,
-        Why::CrewRefused => 11,
     }
 }
 
