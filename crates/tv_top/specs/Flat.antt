@@ -88,8 +88,10 @@ pub record IsFlatRun (name : List ℕ) (steps : ℕ) (file : Option (List ℕ)) 
   pub is_run : IsRun (flat_with steps) image run.ran old new
   pub kept : IsKept file run.ran.journal run.saved
 
--- the file of the journal could not be created
+-- the image was there, and the file of the journal could not be created
 pub record IsUncreated (name : List ℕ) (file : Option (List ℕ)) (before after : ToldStore) : Type 0 where
+  pub bytes : List ℕ
+  pub has : HasImage before name bytes
   pub other : List ℕ
   pub is : file ≡ Some other
   pub middle : ToldStore
