@@ -1,5 +1,5 @@
 -- A burst of events of a hart, event by event.
-use Rattle.std.proofs.Common.{◌≡◌, ◌≢◌, ℕ, suc, ◌+◌, ◌-◌, ◌<◌, ◌≤◌, min, List, [], ◌∷◌, ◌++◌, None, Bool, false, true, eqb, refl, ap, sym, ◌∙◌, subst, append-nil, arith, length, length-set, get_or, set, inl, inr}
+use Rattle.std.proofs.Common.{◌≡◌, ◌≢◌, ℕ, zero, suc, ◌+◌, ◌-◌, ◌<◌, ◌≤◌, min, List, [], ◌∷◌, ◌++◌, None, Bool, false, true, eqb, refl, ap, sym, ◌∙◌, subst, append-nil, arith, length, length-append, length-set, get_or, set, inl, inr}
 use Rattle.std.proofs.lemmas.Bool.Decides.{eqb_tells}
 use Rattle.std.proofs.lemmas.Bool.{false≢true}
 use Rattle.std.proofs.lemmas.Grind.{replicate_next, get_or-set_at}
@@ -9,6 +9,8 @@ use Rattle.tv_hart.specs.declared.Did.TheVariants as did
 use Rattle.tv_base.specs.declared.Why.TheVariants as why
 use Rattle.tv_hart.specs.Hart.{Outcome, stepped, first_hart}
 use Rattle.tv_hart.specs.HartState.{HartState}
+use Rattle.tv_intc.specs.declared.ending.Finish.{Finish}
+use Rattle.tv_intc.specs.declared.ending.Finish.TheVariants as finisher
 use Rattle.tv_journal.specs.declared.Entry.{Entry}
 use Rattle.tv_journal.specs.declared.Entry.TheVariants as entry
 use Rattle.tv_spec.specs.declared.Mode.{Mode}
@@ -27,6 +29,7 @@ use Rattle.tv_spec.proofs.Moves.{after-append, legal-append}
 use Rattle.tv_spec.proofs.SoFar.{debug-append}
 use Rattle.tv_model.specs.Burst.{events_of, Stands, burst_state, IsBurst, IsBurstOf}
 use Rattle.tv_model.specs.Guest.{state_of, AreMade}
+use Rattle.tv_model.specs.GuestState.{GuestState}
 use Rattle.tv_model.specs.Monitor.{IsStep, IsMonitorBurst}
 use Rattle.tv_model.specs.MonitorState.{MonitorState}
 use Rattle.tv_model.proofs.Made.{seen as seen-guest, same_state, same_function, hart_put, ending-is-not-running}
@@ -219,14 +222,44 @@ burst-made harts local place time now next events ticked steps n number most lim
       unbuilt = λ none. absurd (some none);
     }
 
+-- the mode after a burst is the one after its last event
+mode-after : (old new : GuestState) (hart most n : ℕ) (seen : Shown) → IsBurstOf old new hart most (suc n) seen
+    → new.mode ≡ mode_by (end_at (eqb ((after old.setup (state_of old) (events_of hart n)).events + 1) old.setup.steps) (end_shown seen))
+mode-after old new hart most n seen is =
+    let e : Move = made (entry.Hart hart) in
+    let s : State = state_of old in
+    let front : State = after old.setup s (events_of hart n) in
+    let more : suc n ≡ n + 1 = omega arith in
+    let list : events_of hart (suc n) ≡ events_of hart n ++ e ∷ [] = ap (events_of hart) more ∙ replicate_next n e in
+    ap (λ (t : State). t.mode) (is.moves.state ∙ ap (after old.setup s) list ∙ after-append old.setup s (events_of hart n) (e ∷ []))
+    ∙ ap (λ (x : Shown). mode_by (end_at (eqb (front.events + 1) old.setup.steps) (end_shown x))) (sym (is.last n refl))
+
+-- a run does not go on after an ending at the finisher
+finish-ends : (last : Bool) (finish : Finish) → mode_by (end_at last (end_shown (shown.Finish finish))) ≡ mode.Running → ⊥
+finish-ends last finisher.Off is = ending-is-not-running why.PowerOff is
+finish-ends last (finisher.Failed code) is = ending-is-not-running (why.Failed code) is
+
+-- where it is short and no byte came to the console, one more event may not stand
+burst-stops : (old new : MonitorState) (hart most n : ℕ) (seen : Shown) → IsBurstOf old.guest new.guest hart most (suc n) seen
+    → new.console ≡ old.console ++ byte_shown seen → suc n < most → new.console ≡ old.console
+    → ¬ Can new.guest.setup (state_of new.guest) (made (entry.Hart hart))
+burst-stops old new hart most n shown.Nothing is console_is short same = is.stops short refl
+burst-stops old new hart most n (shown.Byte byte) is console_is short same =
+    let longer : length old.console ≡ length (old.console ++ byte ∷ []) = ap (λ (xs : List ℕ). length xs) (sym same ∙ console_is) in
+    absurd (omega (arith, longer, length-append old.console (byte ∷ [])))
+burst-stops old new hart most n (shown.Finish finish) is console_is short same = λ can.
+    finish-ends _ finish (sym (mode-after old.guest new.guest hart most n (shown.Finish finish) is) ∙ can.running)
+
 -- a burst of the guest, as the monitor has it
 pub monitor-burst : (old new : MonitorState) (hart most count : ℕ) (seen : Shown) → IsBurstOf old.guest new.guest hart most count seen → count ≢ 0
     → new.console ≡ old.console ++ byte_shown seen → IsMonitorBurst old new hart most count
-monitor-burst old new hart most count seen is some console_is = record {
-  some = omega (arith, some);
+monitor-burst old new hart most zero seen is some console_is = absurd (some refl)
+monitor-burst old new hart most (suc n) seen is some console_is = record {
+  some = omega arith;
   few = is.few;
   moves = is.moves;
   console = console_is ∙ ap (λ (xs : List ℕ). old.console ++ xs) (sym is.bytes);
+  stops = burst-stops old new hart most n seen is console_is;
 }
 
 -- a burst of one event is a step

@@ -29,12 +29,14 @@ StepsSo old new entry (Ok _) = IsStep old new (made entry)
 StepsSo old new entry (Err step_fault.Illegal) = IsNoStep old new (made entry)
 StepsSo old new entry (Err step_fault.Memory) = new ≡ old
 
--- some events of a hart were made, of up to so many, and their bytes came after those before
+-- some events of a hart were made, of up to so many, and their bytes came after those before; there are fewer only where a
+-- byte came to the console, or one more may not stand
 pub record IsMonitorBurst (old new : MonitorState) (hart most count : ℕ) : Type 0 where
   pub some : 0 < count
   pub few : count ≤ most
   pub moves : AreMade old.guest new.guest (events_of hart count)
   pub console : new.console ≡ old.console ++ debug_bytes old.guest.setup (state_of old.guest) (events_of hart count)
+  pub stops : count < most → new.console ≡ old.console → ¬ Can new.guest.setup (state_of new.guest) (made (entry.Hart hart))
 
 -- a burst by the answer to it
 abbrev pub BurstsSo : MonitorState → MonitorState → ℕ → ℕ → Result ℕ StepFault → Type 0

@@ -89,7 +89,8 @@ impl Guest {
 
     /// The address of a hart's next instruction; 0 for a hart that the machine lacks.
     pub fn pc(&self, hart: HartNo) -> u64
-        ensures { hart < self.now.setup.harts → result ≡ ((state_of self.now).harts hart).pc }
+        ensures value { hart < self.now.setup.harts → result ≡ ((state_of self.now).harts hart).pc }
+        ensures missing { self.now.setup.harts ≤ hart → result ≡ 0 }
     {
         match self.harts.get(usize::from(hart.get())) {
             Some(hart) => hart.pc(),
@@ -97,9 +98,9 @@ impl Guest {
         }
     }
 
-    /// A burst: up to so many events of a hart, and what the last one showed outside memory. It is shorter where an event
-    /// showed something or ended the run, and before one that may not stand; none was made exactly where that is the first
-    /// one or `most` is 0, and nothing is changed then.
+    /// A burst: up to so many events of a hart, and what the last one showed outside memory. It is shorter than asked for
+    /// only where the last one showed something or one more may not stand; none was made exactly where the first may not
+    /// stand or `most` is 0, and nothing is changed then.
     pub fn burst(&mut self, hart: HartNo, most: u32) -> (u32, Shown)
         ensures { IsBurstOf self.old self.new hart most result.0 result.1 }
     {

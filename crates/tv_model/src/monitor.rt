@@ -40,7 +40,7 @@ impl Model for Monitor {
 }
 
 impl Monitor {
-    /// The monitor of a machine with an image of 1 to `ram` bytes, as a run begins.
+    /// The monitor of a machine with an image of up to `ram` bytes, as a run begins.
     ///
     /// # Errors
     /// Want of memory.
@@ -78,8 +78,8 @@ impl Monitor {
         }
     }
 
-    /// Makes a burst of up to `most` events of a hart, and answers how many they are, at least 1. Nothing is changed where
-    /// none is made.
+    /// Makes a burst of up to `most` events of a hart, and answers how many they are, at least 1. They are fewer than `most`
+    /// only where a byte came to the console or one more may not stand. Nothing is changed where none is made.
     ///
     /// # Errors
     /// `Illegal` exactly where the monitor has no such step, or want of memory.

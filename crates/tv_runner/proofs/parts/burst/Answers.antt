@@ -18,7 +18,7 @@ returns-then-made-eq0 c =
     let exists : c.args.hart < c.burst-made.new.self.setup.harts = rw same c.requires.exists in
     let unbuilt : IsUnbuilt c.args.guest.now c.args.hart = c.burst-made.ensures.unbuilt c.if-made-eq0.true c.requires.some in (
       burst-unbuilt c.args.hart c.args.left c.pc.result old c.burst-made.new.self c.requires.some c.requires.runs (sym c.has_room.ensures ∙ c.if-not-has_room.false) same
-          (unbuilt c.requires.exists c.requires.runs) (c.pc.ensures exists),
+          (unbuilt c.requires.exists c.requires.runs) (c.pc.ensures.value exists),
       within-none old c.burst-made.new.self c.args.left (stop.Unbuilt c.pc.result) same,
     )
 
