@@ -33,3 +33,6 @@ fn words_of<R: Env + AllocGlobal>(rt: &R) -> io::Result<Vec<String>> {
     }
     Ok(words)
 }
+
+#[cfg(test)]
+mod tests;

@@ -125,6 +125,13 @@ unlisted {T} name (entry ∷ rest) none found =
     elim [ true ↦ λ _ h. cc | false ↦ λ other h. unlisted name rest h (found_behind name entry rest other found) ] in
     split (is_named name entry) refl none
 
+-- where a name isn't among the names, no object has it
+pub unlisted-none : {T : Type 0} (name : List ℕ) (entries : List (Named T)) → ¬ (Contains (names_of entries) name) → first_named name (objects entries) ≡ None
+unlisted-none {T} name entries absent =
+    let split : (answer : Option ℕ) → MatchOption answer (first_named name (objects entries) ≡ None) (λ at. IsFound name entries 0 at) → first_named name (objects entries) ≡ None =
+    elim [ None ↦ λ none. none | Some at ↦ λ found. absurd (absent found.first.listed) ] in
+    split (position_from (is_named name) 0 entries) (places name entries 0)
+
 -- two counts are the same where all other names share one, for a name that is listed
 pub counted : {T : Type 0} (name : List ℕ) (entries : List (Named T)) (others others' : T) → Contains (names_of entries) name →
     unwrap_or (first_named name (objects entries)) others ≡ unwrap_or (first_named name (objects entries)) others'

@@ -1,7 +1,7 @@
 -- The counts of faults of a store in memory.
 use Rattle.std.specs.Prelude.{◌≡◌, ◌≤◌, ℕ, List, unwrap_or}
 use Rattle.tv_out.specs.Calls.{next_count}
-use Rattle.tv_out.specs.Faults.{NameFaults, Rose, IsElsewhereSame}
+use Rattle.tv_out.specs.Faults.{NameFaults, IsElsewhereSame}
 use Rattle.tv_out.specs.Shelf.{first_named}
 use Rattle.tv_fake.specs.declared.tally.Tally.{Tally}
 use Rattle.tv_fake.specs.Shelf.{names_of, objects}
@@ -13,9 +13,9 @@ faults_by_name tally = record {
   count_of = λ name. unwrap_or (first_named name (objects tally.counts.items)) tally.others;
 }
 
--- a fault at this name was counted, and none elsewhere
+-- a fault at this name was counted, and none at another name of the list
 pub record IsRaised (name : List ℕ) (before now : Tally) : Type 0 where
   pub total : now.total ≡ next_count before.total
   pub later : before.total ≤ now.total
-  pub at_name : Rose ((faults_by_name before).count_of name) ((faults_by_name now).count_of name)
+  pub at_name : (faults_by_name now).count_of name ≡ next_count ((faults_by_name before).count_of name)
   pub elsewhere : IsElsewhereSame (faults_by_name before) (faults_by_name now) name

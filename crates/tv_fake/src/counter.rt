@@ -1,8 +1,8 @@
-//! Counts of calls, and of faults.
+//! Counts of calls.
 
 ghost use Rattle.std.specs.Prelude.{◌≡◌};
 ghost use Rattle.std.specs.Bool.{OnTrue, OnFalse};
-ghost use Rattle.tv_out.specs.Calls.{IsFailing, with_call, next_count};
+ghost use Rattle.tv_out.specs.Calls.{IsFailing, with_call};
 
 use std::marker::Model;
 

@@ -1,6 +1,6 @@
 //! A disk in memory.
 
-ghost use Rattle.std.specs.Prelude.{◌≡◌, ◌≤◌, ◌*◌, ◌/◌, ◌^◌, ◌+◌, Some, IfOk, length, take, replicate, vec_len, vec_capacity};
+ghost use Rattle.std.specs.Prelude.{◌≡◌, ◌≤◌, ◌*◌, ◌/◌, ◌^◌, ◌+◌, Some, IfOk, length, take, vec_len, vec_capacity};
 ghost use Rattle.std.specs.Option.{option_map};
 ghost use Rattle.tv_out.specs.Disk.{sector_at, with_sector, resized};
 ghost use Rattle.tv_fake.specs.Opened.{opened_disk};

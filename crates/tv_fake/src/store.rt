@@ -16,7 +16,8 @@ use std::alloc::Global;
 use tv_base::{Failed, Memory};
 use tv_out::{LoadFault, Store};
 
-/// What a store in memory has from the start. Of several objects of one kind and name it gives one after the other.
+/// What a store in memory has from the start. Of several disks, sinks or sources of one name it gives one after the
+/// other; of several files it loads the first, each time.
 #[derive(Drop)]
 pub struct Objects {
     /// The files that are loaded.
@@ -46,7 +47,8 @@ impl Objects {
     }
 }
 
-/// A store that gives the objects that it was made with, in order. Each call on a name that isn't in its list fails.
+/// A store that loads its files, and gives the other objects that it was made with in order. Each call on a name that
+/// isn't in its list fails.
 #[derive(Drop)]
 pub struct MemoryStore {
     objects: Objects,

@@ -3,7 +3,7 @@
 ghost use Rattle.std.specs.Prelude.{◌≡◌, ◌≤◌, ℕ, List, map, IfOk, Contains};
 ghost use Rattle.std.specs.String.{string_bytes};
 ghost use Rattle.tv_out.specs.Calls.{next_count};
-ghost use Rattle.tv_out.specs.Faults.{Rose, IsElsewhereSame};
+ghost use Rattle.tv_out.specs.Faults.{IsElsewhereSame};
 ghost use Rattle.std.specs.Bool.{OnTrue, OnFalse};
 
 use crate::shelf::{Named, find_named, position_of};
@@ -70,7 +70,7 @@ impl Tally {
     pub fn raise(&mut self, name: &str)
         ensures total { self.new.total ≡ next_count self.old.total }
         ensures later { self.old.total ≤ self.new.total }
-        ensures at_name { Rose ((faults_by_name self.old).count_of name.now) ((faults_by_name self.new).count_of name.now) }
+        ensures at_name { (faults_by_name self.new).count_of name.now ≡ next_count ((faults_by_name self.old).count_of name.now) }
         ensures elsewhere { IsElsewhereSame (faults_by_name self.old) (faults_by_name self.new) name.now }
     {
         self.total = self.total.saturating_add(1);

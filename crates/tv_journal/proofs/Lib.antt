@@ -7,4 +7,5 @@ pub mod Goes
 pub mod Kept
 pub mod Records
 pub mod Spellings
+pub mod Puts
 pub mod Written

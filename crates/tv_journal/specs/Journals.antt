@@ -17,10 +17,6 @@ pub record JournalState : Type 0 where
   pub record_room : ℕ
   pub payload_room : ℕ
 
--- the records that can still be added
-abbrev pub free_records : JournalState → ℕ
-free_records journal = journal.record_room - record_count journal.entries
-
 -- whether there is room for the records with these entries added
 abbrev pub has_room_for : JournalState → List Entry → Bool
 has_room_for journal es = nat_le (record_count (journal.entries ++ es)) journal.record_room

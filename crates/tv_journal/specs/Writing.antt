@@ -1,33 +1,64 @@
 -- The writer of a journal file, which puts its bytes in pieces.
-use Rattle.std.specs.Prelude.{◌≡◌, ℕ, ◌++◌, List, Option, Result, Ok, Err, ⊤}
+use Rattle.std.specs.Prelude.{◌≡◌, ◌⊎◌, ℕ, ◌+◌, ◌-◌, ◌^◌, ◌<◌, ◌≤◌, ◌++◌, List, length, Option, Some, None, Result, Ok, Err, ⊤}
 use Rattle.tv_base.specs.declared.Why.{Why}
-use Rattle.tv_out.specs.Told.{appended, IsCut}
+use Rattle.tv_out.specs.Calls.{RoomScript}
+use Rattle.tv_out.specs.Told.{ToldSink, appended, IsCut, WasRoom, FellShort}
 use Rattle.tv_journal.specs.declared.Entry.{Entry}
 use Rattle.tv_journal.specs.Grammar.{SpellsJournal}
 
--- of these bytes a front went out, and the rest waits in a piece
-pub record IsWriting (written : List ℕ) (start now : Option (List ℕ)) (piece : List ℕ) : Type 0 where
+-- so many calls more were made, or their count came to its last value
+abbrev pub IsMadeOn : ℕ → ℕ → ℕ → Type 0
+IsMadeOn start calls now = (now ≡ start + calls) ⊎ ((2 ^ 64 - 1 ≤ start + calls) × (2 ^ 64 - 1 ≤ now))
+
+-- a script after some calls, so many at most
+pub record IsLater (start now : RoomScript) (most : ℕ) : Type 0 where
+  pub calls : ℕ
+  pub few : calls ≤ most
+  pub made : IsMadeOn start.calls.made calls now.calls.made
+  pub failing : now.calls.failing ≡ start.calls.failing
+  pub room : now.room ≡ start.room
+
+-- the same, where a script is told
+abbrev pub GoesOn : Option RoomScript → Option RoomScript → ℕ → Type 0
+GoesOn None now most = Unit {0}
+GoesOn (Some start) None most = ⊥
+GoesOn (Some start) (Some now) most = IsLater start now most
+
+-- of these bytes a front went out, and the rest waits in a piece; each put had a byte at least
+pub record IsWriting (written : List ℕ) (start now : ToldSink) (piece : List ℕ) : Type 0 where
   pub put : List ℕ
   pub parts : written ≡ put ++ piece
-  pub told : now ≡ appended start put
+  pub told : now.bytes ≡ appended start.bytes put
+  pub goes_on : GoesOn start.script now.script (length put)
+  pub was_room : 0 < length put → WasRoom start.script start.bytes (length put)
+
+-- all of these bytes went out
+pub record IsAllPut (bytes : List ℕ) (old new : ToldSink) : Type 0 where
+  pub told : new.bytes ≡ appended old.bytes bytes
+  pub was_room : WasRoom old.script old.bytes (length bytes)
+
+-- a front of these bytes went out, since the sink failed
+pub record IsPartPut (bytes : List ℕ) (old new : ToldSink) : Type 0 where
+  pub cut : IsCut bytes old.bytes new.bytes
+  pub fell_short : FellShort old.script old.bytes (length bytes)
 
 -- bytes more were written, wherever the writing began
-abbrev pub WritesOn : List ℕ → Option (List ℕ) → List ℕ → Option (List ℕ) → List ℕ → Type 0
+abbrev pub WritesOn : List ℕ → ToldSink → List ℕ → ToldSink → List ℕ → Type 0
 WritesOn more old piece_before new piece_after =
-    (start : Option (List ℕ)) (written : List ℕ) → IsWriting written start old piece_before → IsWriting (written ++ more) start new piece_after
+    (start : ToldSink) (written : List ℕ) → IsWriting written start old piece_before → IsWriting (written ++ more) start new piece_after
 
 -- the writing ended with these bytes, of which a front went out
-abbrev pub EndsIn : List ℕ → Option (List ℕ) → List ℕ → Option (List ℕ) → Type 0
+abbrev pub EndsIn : List ℕ → ToldSink → List ℕ → ToldSink → Type 0
 EndsIn more old piece_before new =
-    (start : Option (List ℕ)) (written : List ℕ) → IsWriting written start old piece_before → IsCut (written ++ more) start new
+    (start : ToldSink) (written : List ℕ) → IsWriting written start old piece_before → IsPartPut (written ++ more) start new
 
--- all of these bytes went out, or a front of them where the sink failed
-abbrev pub PutGives : {E : Type 0} → Result ⊤ E → List ℕ → Option (List ℕ) → Option (List ℕ) → Type 0
-PutGives (Ok _) bytes old new = new ≡ appended old bytes
-PutGives (Err _) bytes old new = IsCut bytes old new
+-- all of these bytes went out, or a front of them
+abbrev pub PutGives : {E : Type 0} → Result ⊤ E → List ℕ → ToldSink → ToldSink → Type 0
+PutGives (Ok _) bytes old new = IsAllPut bytes old new
+PutGives (Err _) bytes old new = IsPartPut bytes old new
 
 -- the journal's file went out so
-pub record IsSaved {E : Type 0} (result : Result ⊤ E) (entries : List Entry) (outer : Option (ℕ × Why)) (old new : Option (List ℕ)) : Type 0 where
+pub record IsSaved {E : Type 0} (result : Result ⊤ E) (entries : List Entry) (outer : Option (ℕ × Why)) (old new : ToldSink) : Type 0 where
   pub bytes : List ℕ
   pub spells : SpellsJournal bytes entries outer
   pub gives : PutGives result bytes old new

@@ -163,8 +163,8 @@ impl Journal {
         });
     }
 
-    /// The end that no event made, with the number of entries before it; `None` where none is set. It stands between two
-    /// records, and no event of a hart comes after it.
+    /// The end that no event made, with the number of entries before it; `None` where none is set. It cuts no record in
+    /// two, and no event of a hart comes after it.
     pub fn outer(&self) -> Option<(u64, Why)>
         ensures outer { result ≡ self.now.outer }
         ensures line { IsOuterEnd self.now.entries result }
@@ -216,9 +216,9 @@ impl Journal {
     /// Puts the journal's file to a sink, in pieces. It takes no memory.
     ///
     /// # Errors
-    /// What the sink answered to the put that failed. A front of the file went out then.
+    /// `Short` where the sink failed. A front of the file went out then.
     pub fn write_file<K: Sink>(&self, sink: &mut K) -> Result<(), Short>
-        ensures saved { IsSaved result self.now.entries self.now.outer (K.told sink.old).bytes (K.told sink.new).bytes }
+        ensures saved { IsSaved result self.now.entries self.now.outer (K.told sink.old) (K.told sink.new) }
         ensures cause { HasCause (K.told sink.old).faults (K.told sink.new).faults result }
     {
         write_lines(sink, &self.records, self.end)

@@ -16,8 +16,8 @@ pub type Piece = ArrayVec<u8, 4096>;
 /// Puts what waits.
 pub fn put_piece<K: Sink>(sink: &mut K, piece: &mut Piece) -> Result<(), Short>
     ensures empty { OnOk result (piece.new.items ≡ []) }
-    ensures ok { OnOk result (WritesOn [] (K.told sink.old).bytes piece.old.items (K.told sink.new).bytes []) }
-    ensures err { OnErr result (EndsIn [] (K.told sink.old).bytes piece.old.items (K.told sink.new).bytes) }
+    ensures ok { OnOk result (WritesOn [] (K.told sink.old) piece.old.items (K.told sink.new) []) }
+    ensures err { OnErr result (EndsIn [] (K.told sink.old) piece.old.items (K.told sink.new)) }
     ensures cause { HasCause (K.told sink.old).faults (K.told sink.new).faults result }
 {
     if piece.is_empty() {
@@ -34,8 +34,8 @@ pub fn put_piece<K: Sink>(sink: &mut K, piece: &mut Piece) -> Result<(), Short>
 /// Writes bytes, up to as many as a piece has.
 pub fn write_bytes<K: Sink>(sink: &mut K, piece: &mut Piece, bytes: &[u8]) -> Result<(), Short>
     requires fits { length bytes.now ≤ 4096 }
-    ensures ok { OnOk result (WritesOn bytes.now (K.told sink.old).bytes piece.old.items (K.told sink.new).bytes piece.new.items) }
-    ensures err { OnErr result (EndsIn bytes.now (K.told sink.old).bytes piece.old.items (K.told sink.new).bytes) }
+    ensures ok { OnOk result (WritesOn bytes.now (K.told sink.old) piece.old.items (K.told sink.new) piece.new.items) }
+    ensures err { OnErr result (EndsIn bytes.now (K.told sink.old) piece.old.items (K.told sink.new)) }
     ensures cause { HasCause (K.told sink.old).faults (K.told sink.new).faults result }
 {
     if piece.len() + bytes.len() > PIECE_BYTES {
@@ -90,8 +90,8 @@ pub fn write_records<K: Sink>(
     piece: &mut Piece,
     records: &[Record],
 ) -> Result<(), Short>
-    ensures ok { OnOk result (WritesOn (flat_map record_bytes records.now) (K.told sink.old).bytes piece.old.items (K.told sink.new).bytes piece.new.items) }
-    ensures err { OnErr result (EndsIn (flat_map record_bytes records.now) (K.told sink.old).bytes piece.old.items (K.told sink.new).bytes) }
+    ensures ok { OnOk result (WritesOn (flat_map record_bytes records.now) (K.told sink.old) piece.old.items (K.told sink.new) piece.new.items) }
+    ensures err { OnErr result (EndsIn (flat_map record_bytes records.now) (K.told sink.old) piece.old.items (K.told sink.new)) }
     ensures cause { HasCause (K.told sink.old).faults (K.told sink.new).faults result }
 {
     for more in records {
@@ -106,8 +106,8 @@ pub fn write_records<K: Sink>(
 /// Writes an end line.
 pub fn write_end<K: Sink>(sink: &mut K, piece: &mut Piece, end: EndLine) -> Result<(), Short>
     requires cause { cause_byte end.why ≢ None }
-    ensures ok { OnOk result (WritesOn (end_bytes end) (K.told sink.old).bytes piece.old.items (K.told sink.new).bytes piece.new.items) }
-    ensures err { OnErr result (EndsIn (end_bytes end) (K.told sink.old).bytes piece.old.items (K.told sink.new).bytes) }
+    ensures ok { OnOk result (WritesOn (end_bytes end) (K.told sink.old) piece.old.items (K.told sink.new) piece.new.items) }
+    ensures err { OnErr result (EndsIn (end_bytes end) (K.told sink.old) piece.old.items (K.told sink.new)) }
     ensures cause { HasCause (K.told sink.old).faults (K.told sink.new).faults result }
 {
     let cause = match end.why {
@@ -129,8 +129,8 @@ fn write_around<K: Sink>(
 ) -> Result<(), Short>
     requires place { end.records ≤ length records.now }
     requires cause { cause_byte end.why ≢ None }
-    ensures ok { OnOk result (WritesOn (lines_bytes records.now (Some end)) (K.told sink.old).bytes piece.old.items (K.told sink.new).bytes piece.new.items) }
-    ensures err { OnErr result (EndsIn (lines_bytes records.now (Some end)) (K.told sink.old).bytes piece.old.items (K.told sink.new).bytes) }
+    ensures ok { OnOk result (WritesOn (lines_bytes records.now (Some end)) (K.told sink.old) piece.old.items (K.told sink.new) piece.new.items) }
+    ensures err { OnErr result (EndsIn (lines_bytes records.now (Some end)) (K.told sink.old) piece.old.items (K.told sink.new)) }
     ensures cause { HasCause (K.told sink.old).faults (K.told sink.new).faults result }
 {
     let (before, after) = records.split_at(end.records);
@@ -153,8 +153,8 @@ fn write_body<K: Sink>(
     end: Option<EndLine>,
 ) -> Result<(), Short>
     requires { EndFits records.now end }
-    ensures ok { OnOk result (WritesOn (lines_bytes records.now end) (K.told sink.old).bytes piece.old.items (K.told sink.new).bytes piece.new.items) }
-    ensures err { OnErr result (EndsIn (lines_bytes records.now end) (K.told sink.old).bytes piece.old.items (K.told sink.new).bytes) }
+    ensures ok { OnOk result (WritesOn (lines_bytes records.now end) (K.told sink.old) piece.old.items (K.told sink.new) piece.new.items) }
+    ensures err { OnErr result (EndsIn (lines_bytes records.now end) (K.told sink.old) piece.old.items (K.told sink.new)) }
     ensures cause { HasCause (K.told sink.old).faults (K.told sink.new).faults result }
 {
     match end {
@@ -165,8 +165,8 @@ fn write_body<K: Sink>(
 
 /// Writes the end of the file, with the number of records.
 fn write_closing<K: Sink>(sink: &mut K, piece: &mut Piece, count: u32) -> Result<(), Short>
-    ensures ok { OnOk result (WritesOn (closing_bytes count) (K.told sink.old).bytes piece.old.items (K.told sink.new).bytes []) }
-    ensures err { OnErr result (EndsIn (closing_bytes count) (K.told sink.old).bytes piece.old.items (K.told sink.new).bytes) }
+    ensures ok { OnOk result (WritesOn (closing_bytes count) (K.told sink.old) piece.old.items (K.told sink.new) []) }
+    ensures err { OnErr result (EndsIn (closing_bytes count) (K.told sink.old) piece.old.items (K.told sink.new)) }
     ensures cause { HasCause (K.told sink.old).faults (K.told sink.new).faults result }
 {
     match write_bytes(sink, piece, &line_of_count(count)) {
@@ -183,7 +183,7 @@ pub fn write_lines<K: Sink>(
     end: Option<EndLine>,
 ) -> Result<(), Short>
     requires { AreLines (record { records = records.now; end = end }) }
-    ensures gives { PutGives result (file_bytes (record { records = records.now; end = end })) (K.told sink.old).bytes (K.told sink.new).bytes }
+    ensures gives { PutGives result (file_bytes (record { records = records.now; end = end })) (K.told sink.old) (K.told sink.new) }
     ensures cause { HasCause (K.told sink.old).faults (K.told sink.new).faults result }
 {
     let mut piece = Piece::new();

@@ -1,5 +1,5 @@
 -- Calls whose failures an object tells beforehand.
-use Rattle.std.specs.Prelude.{ℕ, ◌+◌, ◌-◌, ◌^◌, ◌≤◌, ◌≡◌, ◌⊎◌, List, Option, Some, None, Result, Ok, Err, min, Contains}
+use Rattle.std.specs.Prelude.{ℕ, ◌+◌, ◌-◌, ◌^◌, ◌<◌, ◌≤◌, ◌≡◌, ◌⊎◌, List, Option, Some, None, Result, Ok, Err, min, Contains}
 
 -- the calls of an object: how many were made so far, and the numbers, from 0, of those that fail
 pub record Calls : Type 0 where
@@ -22,6 +22,12 @@ IsFailing calls = Contains calls.failing calls.made ⊎ (2 ^ 64 - 1 ≤ calls.ma
 abbrev pub Foretold : {T E : Type 0} → Type 0 → ℕ → ℕ → Result T E → Type 0
 Foretold due before now (Ok _) = (¬ due) × (now ≡ before)
 Foretold due before now (Err _) = due × (now ≡ next_count before)
+
+-- of the next so many calls one fails
+pub record FailsWithin (calls : Calls) (count : ℕ) : Type 0 where
+  pub ahead : ℕ
+  pub within : ahead < count
+  pub fails : IsFailing (record { made = calls.made + ahead; failing = calls.failing })
 
 -- where calls are told, a call failed exactly by its number
 abbrev pub FollowsCalls : {T E : Type 0} → Option Calls → ℕ → ℕ → Result T E → Type 0

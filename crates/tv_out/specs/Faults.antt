@@ -11,8 +11,8 @@ pub record HasCause {T E : Type 0} (before now : ℕ) (result : Result T E) : Ty
   pub later : before ≤ now
   pub failed : OnErr result (Rose before now)
 
--- the counts of faults by name that a store may tell: the names that it knows, and a count for each of them; all
--- other names share one count
+-- the counts of faults by name that a store may tell: the names that it knows, and the count of each name; the names
+-- that it doesn't know share one count
 pub record NameFaults : Type 0 where
   pub names : List (List ℕ)
   pub count_of : List ℕ → ℕ
@@ -23,10 +23,12 @@ NameRose None now name = Unit {0}
 NameRose (Some before) None name = Unit {0}
 NameRose (Some before) (Some now) name = Rose (before.count_of name) (now.count_of name)
 
--- a call on a name leaves the list of names, and the counts of the other names of the list
+-- a call on a name leaves the list of names, and the counts of the other names of the list; its own count never falls
 pub record IsElsewhereSame (before now : NameFaults) (name : List ℕ) : Type 0 where
   pub names : now.names ≡ before.names
+  pub later : before.count_of name ≤ now.count_of name
   pub others : (other : List ℕ) → Contains before.names other → other ≢ name → now.count_of other ≡ before.count_of other
+  pub shared : (other : List ℕ) → ¬ (Contains before.names name) → ¬ (Contains before.names other) → now.count_of other ≡ now.count_of name
 
 -- the same, where counts of names are told; a store tells them always or never
 abbrev pub StaysElsewhere : Option NameFaults → Option NameFaults → List ℕ → Type 0

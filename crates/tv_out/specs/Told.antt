@@ -3,7 +3,7 @@ use Rattle.std.specs.Prelude.{ℕ, ◌+◌, ◌-◌, ◌<◌, ◌≤◌, ◌≡�
 use Rattle.std.specs.Option.{option_map}
 use Rattle.tv_out.specs.declared.Short.{Short}
 use Rattle.tv_out.specs.Faults.{NameFaults}
-use Rattle.tv_out.specs.Calls.{Calls, RoomScript, IsFailing, IsUncalled, Foretold, next_count, calls_of}
+use Rattle.tv_out.specs.Calls.{Calls, RoomScript, IsFailing, FailsWithin, IsUncalled, Foretold, next_count, calls_of}
 use Rattle.tv_out.specs.Disk.{ToldDisk}
 use Rattle.tv_out.specs.Shelf.{Named}
 
@@ -72,14 +72,9 @@ pub record IsCut (bytes : List ℕ) (old new : Option (List ℕ)) : Type 0 where
   pub parts : bytes ≡ front ++ rest
   pub told : new ≡ appended old front
 
--- told bytes that stand before others are gone
+-- these bytes stand before the rest, where it is told
 abbrev pub prepended : List ℕ → Option (List ℕ) → Option (List ℕ)
 prepended bytes told = option_map (λ rest. bytes ++ rest) told
-
--- how many bytes are told
-abbrev pub told_length : Option (List ℕ) → ℕ
-told_length None = 0
-told_length (Some held) = length held
 
 -- nothing is left, where that is told
 abbrev pub IsSpent : Option (List ℕ) → Type 0
@@ -102,18 +97,38 @@ abbrev pub IsPutShort : RoomScript → ℕ → ℕ → ℕ → Type 0
 IsPutShort script held asked taken =
     (IsFailing script.calls × (taken ≡ 0)) ⊎ ((script.room < held + asked) × (taken ≡ script.room - held) × ¬ (IsFailing script.calls))
 
--- where a script is told, a put is one or the other, and the sink counts a fault where it fell short
-abbrev pub FollowsPut : {T : Type 0} → Option RoomScript → ℕ → ℕ → ℕ → ℕ → Result T Short → Type 0
-FollowsPut None held asked before now result = Unit {0}
-FollowsPut (Some script) held asked before now (Ok _) = IsPutWhole script held asked × (now ≡ before)
-FollowsPut (Some script) held asked before now (Err short) =
-    IsPutShort script held asked short.taken × (now ≡ next_count before)
+-- where a script is told, and the bytes, a put is one or the other, and the sink counts a fault where it fell short
+abbrev pub FollowsPut : {T : Type 0} → Option RoomScript → Option (List ℕ) → ℕ → ℕ → ℕ → Result T Short → Type 0
+FollowsPut None told asked before now result = Unit {0}
+FollowsPut (Some script) None asked before now result = Unit {0}
+FollowsPut (Some script) (Some held) asked before now (Ok _) = IsPutWhole script (length held) asked × (now ≡ before)
+FollowsPut (Some script) (Some held) asked before now (Err short) =
+    IsPutShort script (length held) asked short.taken × (now ≡ next_count before)
+
+-- where a script is told, and the bytes, puts of so many bytes in all went out whole: the first of them is no call that
+-- fails, and there was room
+abbrev pub WasRoom : Option RoomScript → Option (List ℕ) → ℕ → Type 0
+WasRoom None told asked = Unit {0}
+WasRoom (Some script) None asked = Unit {0}
+WasRoom (Some script) (Some held) asked = IsPutWhole script (length held) asked
+
+-- where a script is told, and the bytes, puts of so many bytes in all fell short: one of so many calls fails, as each
+-- puts a byte at least, or there was no room
+abbrev pub FellShort : Option RoomScript → Option (List ℕ) → ℕ → Type 0
+FellShort None told asked = Unit {0}
+FellShort (Some script) None asked = Unit {0}
+FellShort (Some script) (Some held) asked = FailsWithin script.calls asked ⊎ (script.room < length held + asked)
+
+-- a take gave as much as is left and fits, where that is told
+abbrev pub TakesAll : Option (List ℕ) → ℕ → ℕ → Type 0
+TakesAll None asked count = Unit {0}
+TakesAll (Some held) asked count = count ≡ min asked (length held)
 
 -- where calls are told, a take failed exactly by its number, and gave as much as is left and fits
 abbrev pub FollowsTake : Option Calls → Option (List ℕ) → ℕ → ℕ → ℕ → {E : Type 0} → Result ℕ E → Type 0
 FollowsTake None left asked before now result = Unit {0}
 FollowsTake (Some calls) left asked before now (Ok count) =
-    (¬ (IsFailing calls)) × (now ≡ before) × (count ≡ min asked (told_length left))
+    (¬ (IsFailing calls)) × (now ≡ before) × TakesAll left asked count
 FollowsTake (Some calls) left asked before now (Err _) = IsFailing calls × (now ≡ next_count before)
 
 -- where calls are told, a fill failed exactly by its number, or since too few bytes were left

@@ -2,14 +2,15 @@
 //!
 //! Each object has a count of faults that never falls, and a call answers a failure only where that count rose. What an
 //! object holds is told where it can be, as by objects in memory, and `None` elsewhere. An object may also tell
-//! beforehand which of its calls will fail: then it fails at those and at no other.
+//! beforehand which of its calls will fail, and how much room it has or what it can give: then a call fails for that,
+//! and for nothing else.
 #![tactic(auto)]
 
-ghost use Rattle.std.specs.Prelude.{◌≡◌, ◌<◌, ◌≤◌, ◌*◌, ◌^◌, IfOk, IfErr, OnOk, OnErr, length, take};
+ghost use Rattle.std.specs.Prelude.{◌≡◌, ◌<◌, ◌≤◌, ◌^◌, IfOk, IfErr, OnOk, OnErr, length, take};
 ghost use Rattle.std.specs.Option.{option_map};
 ghost use Rattle.tv_out.specs.Faults.{Rose, HasCause, NameRose, StaysElsewhere};
 ghost use Rattle.tv_out.specs.Calls.{with_call, after_call, calls_of, FollowsCalls};
-ghost use Rattle.tv_out.specs.Told.{appended, prepended, gone, told_length, Holds, IsLonger, IsSpent, FollowsPut, FollowsTake, FollowsFill, IsCreatedSink, IsOpenedSource};
+ghost use Rattle.tv_out.specs.Told.{appended, prepended, gone, Holds, IsLonger, IsSpent, FollowsPut, FollowsTake, FollowsFill, IsCreatedSink, IsOpenedSource};
 ghost use Rattle.tv_out.specs.Disk.{IsWhole, HoldsSector, after_write, after_flush, after_set_len, sectors_after, FollowsSetLen, IsOpenedDisk};
 ghost use Rattle.tv_out.specs.Asked.{IsAskedFor, IsGiven, after_load, after_disk, after_sink, after_source, FollowsLoad, FollowsOpening};
 
@@ -193,7 +194,7 @@ pub trait Sink {
         ensures told { (told self.new).bytes ≡ appended (told self.old).bytes (gone result bytes.now) }
         ensures taken { IfErr result (λ short. short.taken ≤ length bytes.now) }
         ensures cause { HasCause (told self.old).faults (told self.new).faults result }
-        ensures follows { FollowsPut (told self.old).script (told_length (told self.old).bytes) (length bytes.now) (told self.old).faults (told self.new).faults result }
+        ensures follows { FollowsPut (told self.old).script (told self.old).bytes (length bytes.now) (told self.old).faults (told self.new).faults result }
         ensures script { (told self.new).script ≡ option_map after_call (told self.old).script };
 }
 

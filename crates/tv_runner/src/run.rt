@@ -1,6 +1,6 @@
 //! A run on one thread, from its first round to its end.
 
-ghost use Rattle.std.specs.Prelude.{◌≡◌, ◌<◌, ◌≤◌, ◌+◌, ◌^◌, [], None, IfOk, OnErr, length};
+ghost use Rattle.std.specs.Prelude.{◌≡◌, ◌<◌, ◌≤◌, [], None, IfOk, OnErr, length};
 ghost use Rattle.tv_machine_file.specs.Valid.{IsValid};
 ghost use Rattle.tv_runner.specs.Runs.{AreRounds, IsRun, outer_by};
 

@@ -8,17 +8,17 @@ use Rattle.tv_model.specs.Replay.{IsLegalWith}
 use Rattle.tv_out.specs.Told.{ToldStore, ToldSink, Holds, Files}
 use Rattle.tv_top.specs.declared.replay.ReplayRefusal.{ReplayRefusal}
 use Rattle.tv_top.specs.declared.replay.ReplayRefusal.TheVariants as refusal
-use Rattle.tv_top.specs.Flat.{HasImage, IsAsked}
+use Rattle.tv_top.specs.Flat.{HasImage, IsLoad}
 use Rattle.tv_top.specs.Replays.{IsJournalIn, HasBoth, PutsLegal, ReplayGives}
 
 -- both files as they were at first
 pub both-there : (before middle : ToldStore) (image_name journal_name image : List ℕ) (entries : List Entry) (outer : Option (ℕ × Why)) → HasImage before image_name image
-    → IsAsked image_name before middle → IsJournalIn middle journal_name entries outer → HasBoth before image_name journal_name image entries outer
-both-there before middle image_name journal_name image entries outer has asked journal = record {
+    → IsLoad image_name before middle → IsJournalIn middle journal_name entries outer → HasBoth before image_name journal_name image entries outer
+both-there before middle image_name journal_name image entries outer has load journal = record {
   has = has;
   journal = record {
     bytes = journal.bytes;
-    held = subst (λ (files : Files). Holds files journal_name journal.bytes) asked.files journal.held;
+    held = subst (λ (files : Files). Holds files journal_name journal.bytes) load.asked.files journal.held;
     spells = journal.spells;
   };
 }

@@ -4,9 +4,9 @@ use Rattle.tv_out.specs.Told.{ToldStore, ToldSink, ToldEntropy}
 use Rattle.tv_top.specs.declared.Ended.{Ended}
 use Rattle.tv_top.specs.declared.flat.FlatRun.{FlatRun}
 use Rattle.tv_top.specs.declared.refusal.Refusal.{Refusal}
-use Rattle.tv_top.specs.Flat.{FlatGives, IsAskedBoth}
+use Rattle.tv_top.specs.Flat.{FlatGives, FlatAsks}
 use Rattle.tv_top.specs.declared.replay.ReplayRefusal.{ReplayRefusal}
-use Rattle.tv_top.specs.Replays.{ReplayGives}
+use Rattle.tv_top.specs.Replays.{ReplayGives, ReplayAsks}
 use Rattle.tv_top.specs.Texts.{IsSaid, status_of, line_of, bad_line, replayed_status, replayed_line}
 use Rattle.tv_words.specs.CommandLine.{Asked, flat, replay, IsCommandLine}
 
@@ -29,7 +29,7 @@ IsLeft (Err refusal) ended = (ended.journal ≡ None) × (ended.outer ≡ None)
 pub record ServesFlat (image : List ℕ) (steps : ℕ) (file : Option (List ℕ)) (store store_after : ToldStore) (out out_after err err_after : ToldSink) (ended : Ended) : Type 0 where
   pub came_to : Result FlatRun Refusal
   pub gives : FlatGives image steps file store store_after out out_after came_to
-  pub asked : IsAskedBoth image file store store_after
+  pub asks : FlatAsks image file store store_after
   pub status_is : ended.status ≡ status_of came_to
   pub left : IsLeft came_to ended
   pub said : IsSaid (line_of image steps came_to) err err_after
@@ -38,7 +38,7 @@ pub record ServesFlat (image : List ℕ) (steps : ℕ) (file : Option (List ℕ)
 pub record ServesReplay (image journal : List ℕ) (store store_after : ToldStore) (out out_after err err_after : ToldSink) (ended : Ended) : Type 0 where
   pub came_to : Result ⊤ ReplayRefusal
   pub gives : ReplayGives image journal store store_after out out_after came_to
-  pub asked : IsAskedBoth image (Some journal) store store_after
+  pub asks : ReplayAsks image journal store store_after
   pub ended_is : ended ≡ record { status = replayed_status came_to; outer = None; journal = None }
   pub said : IsSaid (replayed_line image journal came_to) err err_after
 

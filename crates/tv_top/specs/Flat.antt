@@ -1,11 +1,15 @@
 -- What `flat` comes to, over what lies outside it before and after.
 use Rattle.std.specs.Prelude.{◌≡◌, ◌⊎◌, ℕ, ◌<◌, ◌≤◌, List, [], length, Option, Some, None, Result, Ok, Err, Bool, true, false}
+use Rattle.std.specs.Option.{option_map}
 use Rattle.tv_journal.specs.Grammar.{SpellsJournal}
 use Rattle.tv_journal.specs.Journals.{JournalState}
 use Rattle.tv_machine_file.specs.declared.machine.Machine.{Machine}
 use Rattle.tv_machine_file.specs.Machines.{flat_machine}
+use Rattle.tv_out.specs.Asked.{IsGiven, after_load}
+use Rattle.tv_out.specs.Calls.{with_call}
 use Rattle.tv_out.specs.Faults.{Rose, NameRose, StaysElsewhere}
-use Rattle.tv_out.specs.Told.{ToldStore, ToldSink, Holds, IsCut, IsCreatedSink, appended}
+use Rattle.tv_out.specs.Shelf.{without_first}
+use Rattle.tv_out.specs.Told.{ToldStore, ToldSink, StoreScript, Holds, IsCreatedSink, WasRoom, FellShort}
 use Rattle.tv_runner.specs.Runs.{IsRun}
 use Rattle.tv_top.specs.declared.flat.FlatRun.{FlatRun}
 use Rattle.tv_top.specs.declared.refusal.Refusal.{Refusal}
@@ -42,51 +46,73 @@ IsNotLoaded name before after refusal.Misfit = IsMisfit name before
 IsNotLoaded name before after refusal.OutOfMemory = Unit {0}
 IsNotLoaded name before after refusal.Unwritable = ⊥
 
--- a store of which one file was asked for: its files stay, and the counts of other names
+-- a file of a store was asked for: the files stay, and the counts of other names
 pub record IsAsked (name : List ℕ) (before after : ToldStore) : Type 0 where
   pub files : after.files ≡ before.files
   pub later : before.faults ≤ after.faults
   pub elsewhere : StaysElsewhere before.name_faults after.name_faults name
 
--- and perhaps then another file was asked for
-abbrev pub IsAskedOther : Option (List ℕ) → ToldStore → ToldStore → Type 0
-IsAskedOther None before after = after ≡ before
-IsAskedOther (Some file) before after = (after ≡ before) ⊎ IsAsked file before after
+-- it was asked for to be loaded, which uses nothing up
+pub record IsLoad (name : List ℕ) (before after : ToldStore) : Type 0 where
+  pub asked : IsAsked name before after
+  pub script : after.script ≡ option_map after_load before.script
 
--- a store of which the image was asked for, and perhaps then another file
-pub record IsAskedBoth (name : List ℕ) (other : Option (List ℕ)) (before after : ToldStore) : Type 0 where
+-- a file was asked for to be created, perhaps
+abbrev pub IsPerhapsCreation : Option (List ℕ) → ToldStore → ToldStore → Type 0
+IsPerhapsCreation None before after = after ≡ before
+IsPerhapsCreation (Some file) before after = (after ≡ before) ⊎ IsAsked file before after
+
+-- what `flat` asks of a store: the image, and then perhaps the journal's file
+pub record FlatAsks (image : List ℕ) (file : Option (List ℕ)) (before after : ToldStore) : Type 0 where
   pub middle : ToldStore
-  pub image : IsAsked name before middle
-  pub other_file : IsAskedOther other middle after
+  pub load : IsLoad image before middle
+  pub creation : IsPerhapsCreation file middle after
 
--- a file was created, and a journal went to it, or a front of it where the sink failed
+-- what a store is still to give after a load, and after a file was created then
+abbrev pub after_creation : List ℕ → StoreScript → StoreScript
+after_creation file script = record {
+  calls = with_call (with_call script.calls);
+  disks = script.disks;
+  sinks = without_first file script.sinks;
+  sources = script.sources;
+}
+
+-- a file was created: it is the first of its name, where the store tells those that it will give, and it was given
+pub record IsCreated (file : List ℕ) (before after : ToldStore) (created : ToldSink) : Type 0 where
+  pub is_new : IsCreatedSink created
+  pub is_given : IsGiven before.script (λ script. script.sinks) file created
+  pub script : after.script ≡ option_map (after_creation file) before.script
+
+-- a journal's file went to a created one, or not whole, as the script of that one says
+abbrev pub PutsSo : Bool → List ℕ → ToldSink → Type 0
+PutsSo true bytes created = WasRoom created.script created.bytes (length bytes)
+PutsSo false bytes created = FellShort created.script created.bytes (length bytes)
+
 pub record IsPutTo (created : ToldSink) (journal : JournalState) (saved : Bool) : Type 0 where
   pub bytes : List ℕ
   pub spells : SpellsJournal bytes journal.entries journal.outer
-  pub closed : ToldSink
-  pub whole : saved ≡ true → closed.bytes ≡ appended created.bytes bytes
-  pub cut : saved ≡ false → IsCut bytes created.bytes closed.bytes × Rose created.faults closed.faults
+  pub puts : PutsSo saved bytes created
 
 abbrev pub SavedBy : Option ToldSink → JournalState → Bool → Type 0
 SavedBy None journal saved = saved ≡ true
 SavedBy (Some created) journal saved = IsPutTo created journal saved
 
 -- a journal went to a new file where one was named
-pub record IsSavedNew (journal : JournalState) (saved : Bool) : Type 0 where
+pub record IsSavedNew (file : List ℕ) (journal : JournalState) (saved : Bool) (before after : ToldStore) : Type 0 where
   pub created : ToldSink
-  pub is_new : IsCreatedSink created
+  pub is_created : IsCreated file before after created
   pub put : IsPutTo created journal saved
 
-abbrev pub IsKept : Option (List ℕ) → JournalState → Bool → Type 0
-IsKept None journal saved = saved ≡ true
-IsKept (Some file) journal saved = IsSavedNew journal saved
+abbrev pub IsKept : Option (List ℕ) → JournalState → Bool → ToldStore → ToldStore → Type 0
+IsKept None journal saved before after = (saved ≡ true) × (after.script ≡ option_map after_load before.script)
+IsKept (Some file) journal saved before after = IsSavedNew file journal saved before after
 
 -- the run of the image in the file of this name came to this, and its journal was kept
-pub record IsFlatRun (name : List ℕ) (steps : ℕ) (file : Option (List ℕ)) (store : ToldStore) (old new : ToldSink) (run : FlatRun) : Type 0 where
+pub record IsFlatRun (name : List ℕ) (steps : ℕ) (file : Option (List ℕ)) (before after : ToldStore) (old new : ToldSink) (run : FlatRun) : Type 0 where
   pub image : List ℕ
-  pub has : HasImage store name image
+  pub has : HasImage before name image
   pub is_run : IsRun (flat_with steps) image run.ran old new
-  pub kept : IsKept file run.ran.journal run.saved
+  pub kept : IsKept file run.ran.journal run.saved before after
 
 -- the image was there, and the file of the journal could not be created
 pub record IsUncreated (name : List ℕ) (file : Option (List ℕ)) (before after : ToldStore) : Type 0 where
@@ -95,12 +121,13 @@ pub record IsUncreated (name : List ℕ) (file : Option (List ℕ)) (before afte
   pub other : List ℕ
   pub is : file ≡ Some other
   pub middle : ToldStore
-  pub image : IsAsked name before middle
+  pub load : IsLoad name before middle
   pub failed : IsUnreadable other middle after
+  pub script : after.script ≡ option_map after_load middle.script
 
 -- what holds where `flat` comes to this run or refusal; want of memory has no cause to show, and nothing was put then
 abbrev pub FlatGives : List ℕ → ℕ → Option (List ℕ) → ToldStore → ToldStore → ToldSink → ToldSink → Result FlatRun Refusal → Type 0
-FlatGives name steps file before after old new (Ok run) = IsFlatRun name steps file before old new run
+FlatGives name steps file before after old new (Ok run) = IsFlatRun name steps file before after old new run
 FlatGives name steps file before after old new (Err refusal.Unreadable) = IsUnreadable name before after × (new ≡ old)
 FlatGives name steps file before after old new (Err refusal.Unwritable) = IsUncreated name file before after × (new ≡ old)
 FlatGives name steps file before after old new (Err refusal.Misfit) = IsMisfit name before × (new ≡ old)

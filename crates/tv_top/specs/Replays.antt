@@ -9,7 +9,7 @@ use Rattle.tv_out.specs.Faults.{Rose}
 use Rattle.tv_out.specs.Told.{ToldStore, ToldSink, Holds, IsLonger, IsCut, appended}
 use Rattle.tv_top.specs.declared.replay.ReplayRefusal.{ReplayRefusal}
 use Rattle.tv_top.specs.declared.replay.ReplayRefusal.TheVariants as refusal
-use Rattle.tv_top.specs.Flat.{HasImage, IsAsked, IsNotLoaded, IsUnreadable}
+use Rattle.tv_top.specs.Flat.{HasImage, IsLoad, IsNotLoaded, IsUnreadable}
 use Rattle.tv_top.specs.Texts.{legal_line}
 
 -- the file of this name is that of a journal with these entries and this outer end
@@ -76,8 +76,14 @@ pub record IsWithout (image_name journal_name : List ℕ) (before after : ToldSt
   pub image : List ℕ
   pub has : HasImage before image_name image
   pub middle : ToldStore
-  pub asked : IsAsked image_name before middle
+  pub load : IsLoad image_name before middle
   pub none : IsNoJournal journal_name middle after why
+
+-- what a replay asks of a store: the image, and then perhaps the journal
+pub record ReplayAsks (image journal : List ℕ) (before after : ToldStore) : Type 0 where
+  pub middle : ToldStore
+  pub load : IsLoad image before middle
+  pub journal_load : (after ≡ middle) ⊎ IsLoad journal middle after
 
 -- what holds where a replay comes to this answer; nothing was put but by a legal run
 abbrev pub ReplayGives : List ℕ → List ℕ → ToldStore → ToldStore → ToldSink → ToldSink → Result ⊤ ReplayRefusal → Type 0

@@ -2,8 +2,7 @@
 
 ghost use Rattle.std.specs.Prelude.{◌≡◌, ◌<◌, ◌≤◌, IfOk, IfErr, OnErr, length};
 ghost use Rattle.std.specs.Option.{option_map};
-ghost use Rattle.tv_machine_file.specs.Valid.{IsValid};
-ghost use Rattle.tv_top.specs.Flat.{FlatGives, IsAsked, HasImage, IsAskedBoth, IsNotLoaded, SavedBy, flat_with};
+ghost use Rattle.tv_top.specs.Flat.{FlatGives, FlatAsks, IsLoad, HasImage, IsNotLoaded, SavedBy, flat_with};
 ghost use Rattle.tv_runner.specs.Runs.{IsRun};
 ghost use Rattle.tv_top.specs.Texts.{run_status, stop_status};
 
@@ -65,7 +64,7 @@ pub fn run_flat<S: Store, O: Sink>(
     requires some { 1 ≤ steps }
     requires few { steps ≤ 100_000_000 }
     ensures gives { FlatGives name.now steps (option_map (λ file. file.now) journal.entry) (S.told store.old) (S.told store.new) (O.told out.old) (O.told out.new) result }
-    ensures asked { IsAskedBoth name.now (option_map (λ file. file.now) journal.entry) (S.told store.old) (S.told store.new) }
+    ensures asks { FlatAsks name.now (option_map (λ file. file.now) journal.entry) (S.told store.old) (S.told store.new) }
 {
     let image = load_image(alloc, name, store)?;
     let file = match journal {
@@ -88,7 +87,7 @@ pub fn run_flat<S: Store, O: Sink>(
 pub fn load_image<S: Store>(alloc: Global, name: &str, store: &mut S) -> Result<Vec<u8>, Refusal>
     ensures image { IfOk result (λ image. HasImage (S.told store.old) name.now image.items) }
     ensures refused { IfErr result (λ refusal. IsNotLoaded name.now (S.told store.old) (S.told store.new) refusal) }
-    ensures asked { IsAsked name.now (S.told store.old) (S.told store.new) }
+    ensures load { IsLoad name.now (S.told store.old) (S.told store.new) }
 {
     let image = match store.load(alloc, name, FLAT_RAM_BYTES) {
         Ok(image) => image,

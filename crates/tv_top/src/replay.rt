@@ -1,10 +1,10 @@
 //! The command `replay`.
 
-ghost use Rattle.std.specs.Prelude.{◌≡◌, ◌≤◌, IfOk, IfErr, Some, length, string_bytes};
+ghost use Rattle.std.specs.Prelude.{◌≡◌, ◌≤◌, IfOk, IfErr, length, string_bytes};
 ghost use Rattle.tv_model.specs.Replay.{ReplaysSo};
 ghost use Rattle.tv_machine_file.specs.Machines.{flat_machine};
-ghost use Rattle.tv_top.specs.Flat.{IsAsked, IsAskedBoth};
-ghost use Rattle.tv_top.specs.Replays.{IsJournalIn, IsNoJournal, PutsLegal, ReplayGives};
+ghost use Rattle.tv_top.specs.Flat.{IsLoad};
+ghost use Rattle.tv_top.specs.Replays.{IsJournalIn, IsNoJournal, PutsLegal, ReplayGives, ReplayAsks};
 ghost use Rattle.tv_top.specs.Texts.{legal_line, replay_status};
 
 use crate::flat::load_image;
@@ -62,7 +62,7 @@ pub fn run_replay<S: Store, O: Sink>(
     out: &mut O,
 ) -> Result<(), ReplayRefusal>
     ensures gives { ReplayGives image.now journal.now (S.told store.old) (S.told store.new) (O.told out.old) (O.told out.new) result }
-    ensures asked { IsAskedBoth image.now (Some journal.now) (S.told store.old) (S.told store.new) }
+    ensures asks { ReplayAsks image.now journal.now (S.told store.old) (S.told store.new) }
 {
     let image = match load_image(alloc, image, store) {
         Ok(image) => image,
@@ -84,7 +84,7 @@ fn load_journal<S: Store>(
 ) -> Result<Journal, ReplayRefusal>
     ensures journal { IfOk result (λ journal. IsJournalIn (S.told store.old) name.now journal.entries journal.outer) }
     ensures refused { IfErr result (λ refusal. IsNoJournal name.now (S.told store.old) (S.told store.new) refusal) }
-    ensures asked { IsAsked name.now (S.told store.old) (S.told store.new) }
+    ensures load { IsLoad name.now (S.told store.old) (S.told store.new) }
 {
     let bytes = match store.load(alloc, name, JOURNAL_BYTES) {
         Ok(bytes) => bytes,

@@ -1,10 +1,18 @@
-use Rattle.std.proofs.Common.{ℕ, List, [], Option, take, ap, ◌∙◌}
-use Rattle.tv_out.specs.Told.{appended}
+use Rattle.std.proofs.Common.{ℕ, List, [], length, ◌<◌, sym, arith}
+use Rattle.std.proofs.lemmas.Bool.{eqb-false}
+use Rattle.tv_out.specs.Told.{ToldSink}
 use Rattle.tv_journal.specs.Writing.{IsWriting}
-use Rattle.tv_journal.proofs.Written.{writing-cut}
+use Rattle.tv_journal.proofs.Written.{writing-put, writing-cut}
 use Rattle.tv_journal.proofs.writer.put_piece.Goals as goal
 
 pub returns-in-Err-clause-err : goal.returns-in-Err-clause-err
-returns-in-Err-clause-err g c = λ (start : Option (List ℕ)) (written : List ℕ) (so_far : IsWriting written start (g.K.Sink.told c.args.sink.now).bytes c.args.piece.now.items).
-    writing-cut written start (g.K.Sink.told c.args.sink.now).bytes (g.K.Sink.told c.put.new.self).bytes c.args.piece.now.items [] c.in-Err.short.taken so_far
-    (c.in-Err.ensures.told ∙ ap (λ (bytes : List ℕ). appended (g.K.Sink.told c.args.sink.now).bytes (take c.in-Err.short.taken bytes)) c.deref.ensures.0)
+returns-in-Err-clause-err g c = λ (start : ToldSink) (written : List ℕ) (so_far : IsWriting written start (g.K.Sink.told c.args.sink.now) c.args.piece.now.items).
+    let some : 0 < length c.args.piece.now.items = omega (arith, eqb-false (length c.args.piece.now.items) 0 (sym c.if-is_empty.ensures)) in
+    writing-cut written start (g.K.Sink.told c.args.sink.now) (g.K.Sink.told c.put.new.self) c.args.piece.now.items [] c.in-Err.short so_far some
+    (rw c.deref.ensures.0 at c.in-Err.ensures.told) (rw c.deref.ensures.0 at c.in-Err.ensures.follows)
+
+pub returns-clause-ok : goal.returns-clause-ok
+returns-clause-ok g c = λ (start : ToldSink) (written : List ℕ) (so_far : IsWriting written start (g.K.Sink.told c.args.sink.now) c.args.piece.now.items).
+    let some : 0 < length c.args.piece.now.items = omega (arith, eqb-false (length c.args.piece.now.items) 0 (sym c.if-is_empty.ensures)) in
+    writing-put written start (g.K.Sink.told c.args.sink.now) (g.K.Sink.told c.put.new.self) c.args.piece.now.items c.in-Ok.field-0 so_far some
+    (rw c.deref.ensures.0 at c.in-Ok.ensures.told) c.in-Ok.ensures.script (rw c.deref.ensures.0 at c.in-Ok.ensures.follows)

@@ -23,8 +23,8 @@ pub returns-clause-err : goal.returns-clause-err
 returns-clause-err g c =
     let rs = c.args.records.now in
     let n = c.args.end.records in
-    let mid = (g.K.Sink.told c.write_end.new.sink).bytes in
-    let new = (g.K.Sink.told c.write_records-2.new.sink).bytes in
+    let mid = (g.K.Sink.told c.write_end.new.sink) in
+    let new = (g.K.Sink.told c.write_records-2.new.sink) in
     let piece = c.write_end.new.piece.items in
     on-err (EndsIn (flat_map record_bytes c.split_at.result.1.now) mid piece new) _ c.write_records-2.result
     (λ (ends : EndsIn (flat_map record_bytes c.split_at.result.1.now) mid piece new).

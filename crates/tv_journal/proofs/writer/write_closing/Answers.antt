@@ -6,14 +6,14 @@ use Rattle.tv_journal.proofs.writer.write_closing.Goals as goal
 
 pub returns-in-Err-clause-err : goal.returns-in-Err-clause-err
 returns-in-Err-clause-err g c =
-    subst (λ (bytes : List ℕ). EndsIn bytes (g.K.Sink.told c.args.sink.now).bytes c.args.piece.now.items (g.K.Sink.told c.write_bytes.new.sink).bytes)
+    subst (λ (bytes : List ℕ). EndsIn bytes (g.K.Sink.told c.args.sink.now) c.args.piece.now.items (g.K.Sink.told c.write_bytes.new.sink))
     (c.deref.ensures.0 ∙ c.line_of_count.ensures) c.in-Err.ensures.err
 
 pub returns-clause-err : goal.returns-clause-err
 returns-clause-err g c =
-    let old = (g.K.Sink.told c.args.sink.now).bytes in
-    let mid = (g.K.Sink.told c.write_bytes.new.sink).bytes in
-    let new = (g.K.Sink.told c.put_piece.new.sink).bytes in
+    let old = (g.K.Sink.told c.args.sink.now) in
+    let mid = (g.K.Sink.told c.write_bytes.new.sink) in
+    let new = (g.K.Sink.told c.put_piece.new.sink) in
     let first : WritesOn (closing_bytes c.args.count) old c.args.piece.now.items mid c.write_bytes.new.piece.items =
     subst (λ (bytes : List ℕ). WritesOn bytes old c.args.piece.now.items mid c.write_bytes.new.piece.items) (c.deref.ensures.0 ∙ c.line_of_count.ensures) c.in-Ok.ensures.ok in
     on-err (EndsIn [] mid c.write_bytes.new.piece.items new) _ c.put_piece.result

@@ -1,4 +1,4 @@
-use Rattle.std.proofs.Common.{[], ◌++◌, length}
+use Rattle.std.proofs.Common.{[], ◌++◌, length, arith}
 use Rattle.std.specs.Prelude.{codes, OnOk, OnErr}
 use Rattle.tv_journal.specs.Grammar.{lines_bytes, closing_bytes}
 use Rattle.tv_journal.specs.Writing.{WritesOn, EndsIn}
@@ -9,7 +9,7 @@ pub returns-in-Err-clause-gives : goal.returns-in-Err-clause-gives
 returns-in-Err-clause-gives g c =
     let lines = lines_bytes c.args.records.now c.args.end in
     let closing = closing_bytes (length c.args.records.now) in
-    let magic : EndsIn (codes "TVJ1") (g.K.Sink.told c.args.sink.now).bytes [] (g.K.Sink.told c.write_bytes.new.sink).bytes =
+    let magic : EndsIn (codes "TVJ1") (g.K.Sink.told c.args.sink.now) [] (g.K.Sink.told c.write_bytes.new.sink) =
     rw c.new-piece.ensures at c.in-Err.ensures.err in
     cut-whole ((codes "TVJ1" ++ lines) ++ closing) _ _ (ends-before (codes "TVJ1" ++ lines) closing _ _ _ (ends-before (codes "TVJ1") lines _ _ _ magic))
 
@@ -17,7 +17,7 @@ pub returns-in-Err-write_body-clause-gives : goal.returns-in-Err-write_body-clau
 returns-in-Err-write_body-clause-gives g c =
     let lines = lines_bytes c.args.records.now c.args.end in
     let closing = closing_bytes (length c.args.records.now) in
-    let magic : WritesOn (codes "TVJ1") (g.K.Sink.told c.args.sink.now).bytes [] (g.K.Sink.told c.write_bytes.new.sink).bytes c.write_bytes.new.piece.items =
+    let magic : WritesOn (codes "TVJ1") (g.K.Sink.told c.args.sink.now) [] (g.K.Sink.told c.write_bytes.new.sink) c.write_bytes.new.piece.items =
     rw c.new-piece.ensures at c.in-Ok.ensures.ok in
     cut-whole ((codes "TVJ1" ++ lines) ++ closing) _ _ (ends-before (codes "TVJ1" ++ lines) closing _ _ _ (ends-after (codes "TVJ1") lines _ _ _ _ _ magic c.in-Err-write_body.ensures.err))
 
@@ -25,18 +25,18 @@ pub returns-clause-gives : goal.returns-clause-gives
 returns-clause-gives g c =
     let lines = lines_bytes c.args.records.now c.args.end in
     let closing = closing_bytes (length c.args.records.now) in
-    let old = (g.K.Sink.told c.args.sink.now).bytes in
-    let mid = (g.K.Sink.told c.write_body.new.sink).bytes in
-    let new = (g.K.Sink.told c.write_closing.new.sink).bytes in
+    let old = (g.K.Sink.told c.args.sink.now) in
+    let mid = (g.K.Sink.told c.write_body.new.sink) in
+    let new = (g.K.Sink.told c.write_closing.new.sink) in
     let piece = c.write_body.new.piece.items in
-    let magic : WritesOn (codes "TVJ1") old [] (g.K.Sink.told c.write_bytes.new.sink).bytes c.write_bytes.new.piece.items =
+    let magic : WritesOn (codes "TVJ1") old [] (g.K.Sink.told c.write_bytes.new.sink) c.write_bytes.new.piece.items =
     rw c.new-piece.ensures at c.in-Ok.ensures.ok in
     let body : WritesOn (codes "TVJ1" ++ lines) old [] mid piece =
-    writes-after (codes "TVJ1") lines old (g.K.Sink.told c.write_bytes.new.sink).bytes mid [] c.write_bytes.new.piece.items piece magic c.in-Ok-write_body.ensures.ok in
+    writes-after (codes "TVJ1") lines old (g.K.Sink.told c.write_bytes.new.sink) mid [] c.write_bytes.new.piece.items piece magic c.in-Ok-write_body.ensures.ok in
     let ok : OnOk c.write_closing.result (WritesOn ((codes "TVJ1" ++ lines) ++ closing) old [] new []) =
     on-ok (WritesOn closing mid piece new []) _ c.write_closing.result
     (λ (writes : WritesOn closing mid piece new []). writes-after (codes "TVJ1" ++ lines) closing old mid new [] piece [] body writes) c.write_closing.ensures.ok in
     let err : OnErr c.write_closing.result (EndsIn ((codes "TVJ1" ++ lines) ++ closing) old [] new) =
     on-err (EndsIn closing mid piece new) _ c.write_closing.result
     (λ (ends : EndsIn closing mid piece new). ends-after (codes "TVJ1" ++ lines) closing old mid new [] piece body ends) c.write_closing.ensures.err in
-    gives-whole c.write_closing.result ((codes "TVJ1" ++ lines) ++ closing) old new ok err
+    gives-whole c.write_closing.result ((codes "TVJ1" ++ lines) ++ closing) old new (omega arith) ok err

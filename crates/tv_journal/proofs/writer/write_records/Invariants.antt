@@ -7,6 +7,6 @@ use Rattle.tv_journal.proofs.writer.write_records.Given as goal
 -- the records so far are written
 abbrev pub invariant-loop-more : goal.invariant-loop-more
 invariant-loop-more g l = record {
-  written : WritesOn (flat_map record_bytes (take l.more-index l.records)) (g.K.Sink.told l.fn.sink).bytes l.fn.piece.items (g.K.Sink.told l.sink).bytes l.piece.items;
+  written : WritesOn (flat_map record_bytes (take l.more-index l.records)) (g.K.Sink.told l.fn.sink) l.fn.piece.items (g.K.Sink.told l.sink) l.piece.items;
   later : (g.K.Sink.told l.fn.sink).faults ≤ (g.K.Sink.told l.sink).faults;
 }

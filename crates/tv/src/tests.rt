@@ -1,0 +1,88 @@
+//! Whole commands over real files, in the system's folder for temporary ones.
+
+use super::*;
+use std::process::Abort;
+use std::test::Fail;
+use std::{fs, process};
+
+/// The image that prints `A` and switches off.
+const HELLO: [u8; 28] = [
+    0xb7, 0x02, 0x00, 0x10, 0x13, 0x03, 0x10, 0x04, 0x23, 0x80, 0x62, 0x00, 0xb7, 0x02, 0x10, 0x00,
+    0x37, 0x53, 0x00, 0x00, 0x13, 0x03, 0x53, 0x55, 0x23, 0xa0, 0x62, 0x00,
+];
+
+/// The file of its journal: seven events of hart 0.
+const HELLO_JOURNAL: [u8; 15] = [
+    b'T', b'V', b'J', b'1', 0x01, 0, 7, 0, 0, 0, 0x00, 1, 0, 0, 0,
+];
+
+/// A path of this process's own for a temporary file.
+fn path(rt: &HostRuntime, name: &str) -> Result<String, Fail> {
+    let folder = env::temp_dir(rt)?;
+    let id = process::id(rt.process());
+    Ok(format!(in rt.alloc(); "{}/tv-{id}-{name}", folder.as_str())?)
+}
+
+/// What a command answered: its status, and what it put to both outputs.
+#[derive(Drop)]
+struct Answer {
+    status: u8,
+    out: Vec<u8>,
+    err: Vec<u8>,
+}
+
+/// What a file of the system holds, which is removed then.
+fn taken(rt: &HostRuntime, path: &str) -> Result<Vec<u8>, Fail> {
+    let bytes = fs::read(rt, path)?;
+    fs::remove_file(rt, path)?;
+    Ok(bytes)
+}
+
+/// Serves words over the files of the system.
+fn serve(rt: &HostRuntime, words: &[&str]) -> Result<Answer, Fail> {
+    let mut texts = Vec::new(rt.alloc());
+    for word in words {
+        texts.push(String::from_str(rt.alloc(), word)?)?;
+    }
+    let out = path(rt, "out")?;
+    let err = path(rt, "err")?;
+    let mut outside = PlainOutside {
+        store: FileStore::new(rt),
+        out: WriterSink::new(fs::create(rt, &out)?),
+        err: WriterSink::new(fs::create(rt, &err)?),
+        random: SystemEntropy::new(rt),
+    };
+    let ended = plain(rt.alloc(), &texts, &mut outside);
+    Ok(Answer {
+        status: ended.status,
+        out: taken(rt, &out)?,
+        err: taken(rt, &err)?,
+    })
+}
+
+/// Compares an answer.
+fn expect(rt: &impl Abort, answer: &Answer, status: u8, out: &str, err: &str) {
+    assert_eq!(rt; answer.status, status);
+    assert_eq!(rt; answer.out.as_slice(), out.as_bytes());
+    assert_eq!(rt; answer.err.as_slice(), err.as_bytes());
+}
+
+#[test]
+fn journals_go_to_their_file_and_are_replayed(rt: HostRuntime) -> Result<(), Fail> {
+    let image = path(&rt, "image")?;
+    let journal = path(&rt, "journal")?;
+    fs::write(&rt, &image, HELLO.as_slice())?;
+    // What the file held before is gone.
+    fs::write(&rt, &journal, [7; 4096].as_slice())?;
+    let ran = serve(&rt, &["flat", &image, "--journal", &journal])?;
+    let replayed = serve(&rt, &["replay", "--flat", &image, &journal])?;
+    let unwritten = serve(&rt, &["flat", "--journal=/", &image])?;
+    let saved = taken(&rt, &journal)?;
+    fs::remove_file(&rt, &image)?;
+    expect(&rt, &ran, 0, "A", "");
+    assert_eq!(rt; saved.as_slice(), HELLO_JOURNAL.as_slice());
+    let line = "legal: 1 records, 7 events, status 0\n";
+    expect(&rt, &replayed, 0, line, "");
+    expect(&rt, &unwritten, 5, "", "tv: cannot write\n");
+    Ok(())
+}
