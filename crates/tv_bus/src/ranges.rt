@@ -1,6 +1,6 @@
 //! Ranges of addresses.
 
-ghost use Rattle.std.specs.Prelude.{◌≡◌, ◌≢◌, ◌<◌, ◌≤◌, ◌+◌, ◌^◌, ◌∷◌, [], ◌++◌, IfSome, IfNone, OnOk, OnErr, IsOkUnless};
+ghost use Rattle.std.specs.Prelude.{◌≡◌, ◌<◌, ◌+◌, ◌∷◌, [], ◌++◌, IfSome, IfNone, OnOk, OnErr, IsOkUnless};
 ghost use Rattle.tv_bus.specs.Ranges.{range_at, overlaps, refusal, shares, AreApart};
 
 use crate::{BusError, Target};

@@ -1,17 +1,7 @@
 //! What an operation does to its hart and asks of the place.
 
-ghost use Rattle.std.specs.Prelude.{◌≡◌, ◌<◌, ◌*◌, ◌^◌, slice_index};
-ghost use Rattle.tv_hart.specs.Effect.{
-  effect_of,
-  sum_64,
-  FitsOperation,
-  FitsEffect,
-  register,
-  immediate,
-  branch_offset,
-  upper_immediate,
-  jump_offset,
-};
+ghost use Rattle.std.specs.Prelude.{◌≡◌, ◌<◌, ◌^◌, slice_index};
+ghost use Rattle.tv_hart.specs.Effect.{effect_of, sum_64, FitsOperation, FitsEffect, register, immediate, branch_offset, upper_immediate, jump_offset};
 
 use crate::loads::Extension;
 use crate::operation::Operation;

@@ -66,18 +66,6 @@ impl Hart {
         }
     }
 
-    /// The same hart once more.
-    pub fn copy(&self) -> Hart
-        ensures { result ≡ self.now }
-    {
-        Hart {
-            number: self.number,
-            registers: self.registers,
-            pc: self.pc,
-            waiting: self.waiting,
-        }
-    }
-
     /// The address of the next instruction.
     pub fn pc(&self) -> u64
         ensures { result ≡ self.now.pc }

@@ -177,17 +177,14 @@ fn loads_are_extended_at_once_or_later(rt: HostRuntime) -> Result<(), Fail> {
         let mut later = hart(0x8000_0000, 0);
         assert_eq!(rt; later.step(&mut place), Did::Held, "{word}");
         assert_eq!(rt; (later.registers[7], later.pc()), (7, PC + 4), "{word}");
-        let mut twin = later.copy();
-        assert!(rt; later.waits() && twin.waits(), "{word}");
+        assert!(rt; later.waits(), "{word}");
         later.finish_load(value);
         assert_eq!(rt;
             (later.registers[0], later.registers[7], later.pc),
             (0, x7, PC + 4),
             "{word}"
         );
-        assert!(rt; !later.waits() && twin.waits(), "{word}");
-        twin.finish_load(0);
-        assert_eq!(rt; (twin.registers[0], twin.pc), (0, PC + 4), "{word}");
+        assert!(rt; !later.waits(), "{word}");
     }
     Ok(())
 }

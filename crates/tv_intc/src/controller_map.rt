@@ -2,7 +2,7 @@
 
 ghost use Rattle.std.specs.Prelude.{◌≡◌, ◌≤◌, IfSome, Some};
 ghost use Rattle.tv_intc.specs.declared.controller_map.Register.{Register};
-ghost use Rattle.tv_intc.specs.ControllerMap.{IsThere, context_at, offset_of, register_at};
+ghost use Rattle.tv_intc.specs.ControllerMap.{IsThere, offset_of, register_at};
 
 /// A register of the interrupt controller, each of 4 bytes.
 #[derive(Clone, Copy)]

@@ -104,7 +104,7 @@ pub record IsSavedNew (file : List ℕ) (journal : JournalState) (saved : Bool) 
   pub put : IsPutTo created journal saved
 
 abbrev pub IsKept : Option (List ℕ) → JournalState → Bool → ToldStore → ToldStore → Type 0
-IsKept None journal saved before after = (saved ≡ true) × (after.script ≡ option_map after_load before.script)
+IsKept None journal saved before after = saved ≡ true
 IsKept (Some file) journal saved before after = IsSavedNew file journal saved before after
 
 -- the run of the image in the file of this name came to this, and its journal was kept

@@ -4,7 +4,7 @@ use Rattle.std.specs.Prelude.{◌==◌, ℕ, ◌+◌, ◌%◌, ◌^◌, bit_and,
 use Rattle.tv_trap.specs.CsrState.{CsrState}
 use Rattle.tv_trap.specs.Registers.{aligned, is_set}
 
--- a hart that starts: all registers are 0, but for its number
+-- a hart that starts: what its registers keep is 0, but for its number
 abbrev pub first_csrs : ℕ → CsrState
 first_csrs hart = record {
   hart = hart;

@@ -7,8 +7,8 @@
 #![tactic(auto)]
 
 ghost use Rattle.std.specs.Prelude.{◌≡◌, ◌<◌, ◌%◌, is_some, unwrap_or};
-ghost use Rattle.tv_trap.specs.Registers.{aligned, csr_read, csr_write, interrupt_bits, is_set, mstatus, value_of, with_value};
-ghost use Rattle.tv_trap.specs.Traps.{counted, first_csrs, pending_interrupt, risen, trap_entry, trap_return};
+ghost use Rattle.tv_trap.specs.Registers.{aligned, csr_read, csr_write, is_set, mstatus, value_of, with_value};
+ghost use Rattle.tv_trap.specs.Traps.{counted, first_csrs, pending_interrupt, trap_entry, trap_return};
 
 mod registers;
 

@@ -2,7 +2,7 @@
 
 ghost use Rattle.std.specs.Prelude.{◌≡◌, option_map};
 ghost use Rattle.tv_words.specs.CommandLine.{texts};
-ghost use Rattle.tv_words.specs.Reading.{expecting, given_seen, nothing_given, read, reading, with_flat, with_name, with_value};
+ghost use Rattle.tv_words.specs.Reading.{given_seen, nothing_given, read, reading, with_flat, with_name, with_value};
 
 use crate::word::{Setting, Word, is_plain, read_word};
 

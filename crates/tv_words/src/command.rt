@@ -1,6 +1,6 @@
 //! The commands, and the words that ask for them.
 
-ghost use Rattle.std.specs.Prelude.{ℕ, ◌<◌, ◌^◌, List, codes, IfSome, IfNone, option_map};
+ghost use Rattle.std.specs.Prelude.{ℕ, ◌<◌, ◌^◌, codes, IfSome, IfNone, option_map};
 ghost use Rattle.tv_words.specs.CommandLine.{Asked, Asks, IsCommandLine, IsLimit, IsNumber, asked_by, texts};
 ghost use Rattle.tv_words.specs.Reading.{given_seen};
 

@@ -17,6 +17,6 @@ returns-in-Ok-run_image-clause-gives g c = elim c.match-journal.branch [
     image = c.in_ok-image.image.items;
     has = c.in_ok-image.ensures.image;
     is_run = rw c.deref.ensures.value at c.in-Ok-run_image.ensures.ran;
-    kept = rw (w.in-None.is, w.store-is) ((rw w.file-is at c.save-saved.ensures), c.load_image.ensures.load.script);
+    kept = rw w.in-None.is (rw w.file-is at c.save-saved.ensures);
   }
 ]
