@@ -1,5 +1,7 @@
 ghost use Rattle.std.specs.Prelude.{◌≡◌};
 
+mod listing;
+
 use super::{Did, Hart, Loaded, Place, Stored};
 use std::test::Fail;
 use tv_base::{HartNo, Width};

@@ -685,6 +685,3 @@ pub enum AmoOp {
     /// The greater, unsigned.
     Maxu,
 }
-
-#[cfg(test)]
-mod tests;

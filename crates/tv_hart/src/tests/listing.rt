@@ -1,6 +1,8 @@
-// Words from outside: each row of the listing as LLVM's assembler writes it, and words of small programs.
-use super::*;
+//! Words from outside as the hart reads them: each row of the instruction listing as LLVM's assembler writes it, and
+//! words of small programs.
+
 use std::process::Abort;
+use tv_isa::{Instr, decode, encode};
 
 /// Reads each word as an instruction of this name, and writes it again.
 fn expect(rt: &impl Abort, rows: &[(u32, &'static str)]) {
