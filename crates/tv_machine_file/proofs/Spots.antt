@@ -1,12 +1,12 @@
 -- Places in lists of capabilities.
-use Rattle.std.proofs.Common.{◌≡◌, ◌<◌, ◌≤◌, ℕ, zero, suc, ◌+◌, ◌-◌, Bool, true, false, List, [], ◌∷◌, ◌++◌, map, length, refl, arith, Option, Some, None, slice_set, slice_index_or, ap, ◌∙◌, sym, drop}
+use Rattle.std.proofs.Common.{◌≡◌, ◌≢◌, ◌<◌, ◌≤◌, ℕ, zero, suc, ◌+◌, ◌-◌, Bool, true, false, List, [], ◌∷◌, ◌++◌, map, length, refl, arith, Option, Some, None, slice_set, slice_index_or, ap, ◌∙◌, sym, subst, drop}
 use Rattle.std.specs.Prelude.{slice_get, option_and_then, option_to_list}
 use Rattle.std.proofs.lemmas.List.{drop_more}
 use Rattle.std.proofs.lemmas.Option.{slice_get-get_or}
 use Rattle.tv_machine_file.specs.declared.kinds.DeviceSpec.{DeviceSpec}
 use Rattle.tv_machine_file.specs.declared.capabilities.Spot.{Spot}
 use Rattle.tv_machine_file.specs.declared.capabilities.Spot.TheVariants as spot
-use Rattle.tv_machine_file.specs.Capabilities.{Capability, memory, disk, output, input, source, spot_of, spot_at, resized_at, sectors_at, slot_of_disk, device_capabilities, source_capability}
+use Rattle.tv_machine_file.specs.Capabilities.{Capability, memory, disk, output, input, source, spot_of, spot_at, resized_at, sectors_at, slot_of_disk, device_capabilities, source_capability, capabilities_from}
 
 -- a place among the first ones
 pub spot-among : {A : Type 0} (f : A → Capability) (s : Spot) (xs : List A) (rest : List Capability) (at : ℕ)
@@ -122,6 +122,60 @@ module _ (slot : ℕ) (d : DeviceSpec) (at ranges disks outputs inputs : ℕ) (r
   pub past-input : ranges ≤ at → disks ≤ at - ranges → outputs ≤ at - ranges - disks → inputs ≤ at - ranges - disks - outputs
       → spot_at (device_capabilities slot d) at ≡ spot_at (source_capability slot d.irq) (at - ranges - disks - outputs - inputs)
   past-input past more yet last = past-output past more yet ∙ rw i (spot-past (input slot) (option_to_list d.input) _ _ (omega arith))
+
+-- no capability of a device without a disk is a disk
+abbrev pub AreNoDisks : List Capability → Type 0
+AreNoDisks [] = Unit {0}
+AreNoDisks (c ∷ caps) = (spot_of c ≡ spot.Other) × AreNoDisks caps
+
+no-disks-map : {A : Type 0} (f : A → Capability) (xs : List A) (rest : List Capability) → ((x : A) → spot_of (f x) ≡ spot.Other) → AreNoDisks rest → AreNoDisks (map f xs ++ rest)
+no-disks-map f [] rest each more = more
+no-disks-map f (x ∷ xs) rest each more = (each x, no-disks-map f xs rest each more)
+
+no-disks-source : (slot : ℕ) (irq : Bool) → AreNoDisks (source_capability slot irq)
+no-disks-source slot false = tt
+no-disks-source slot true = (refl, tt)
+
+no-disks-of : (slot : ℕ) (d : DeviceSpec) → d.disk ≡ None → AreNoDisks (device_capabilities slot d)
+no-disks-of slot d none = rw none
+    (no-disks-map (memory slot) d.mem _ (λ _. refl) (no-disks-map (output slot) (option_to_list d.output) _ (λ _. refl)
+    (no-disks-map (input slot) (option_to_list d.input) _ (λ _. refl) (no-disks-source slot d.irq))))
+
+none-found : (caps : List Capability) (at : ℕ) → AreNoDisks caps → spot_at caps at ≢ spot.Disk
+none-found [] at none is = absurd (cc)
+none-found (c ∷ caps) zero none is = let same : spot.Other ≡ spot.Disk = sym none.0 ∙ is in absurd (cc)
+none-found (c ∷ caps) (suc at) none is = none-found caps at none.1 is
+
+-- the device whose disk has a number, counted from a slot on
+pub record IsDiskAt (start : ℕ) (ds : List DeviceSpec) (slot : ℕ) : Type 0 where
+  pub ahead : ℕ
+  pub is : slot ≡ start + ahead
+  pub disk_there : (d : DeviceSpec) → (slice_index_or ds ahead d).disk ≢ None
+
+pub disk-at : (start : ℕ) (ds : List DeviceSpec) (at slot : ℕ) → found (capabilities_from start ds) at ≡ Some slot → IsDiskAt start ds slot
+disk-at start [] at slot is = absurd (cc)
+disk-at start (x ∷ ds) at slot is =
+    let caps = device_capabilities start x in
+    let rest = capabilities_from (start + 1) ds in
+    let split : (s : Spot) → spot_at caps at ≡ s → IsDiskAt start (x ∷ ds) slot =
+    elim [
+      | spot.Disk ↦ λ here. record {
+        ahead = 0;
+        is = let same : Some slot ≡ Some start = sym is ∙ found-disk start caps rest at (of-device start x) here in let e : slot ≡ start = cc in omega arith;
+        disk_there = λ d none. none-found caps at (no-disks-of start x none) here;
+      }
+      | spot.Other ↦ λ here. let same : Some slot ≡ None = sym is ∙ found-other caps rest at here in absurd (cc)
+      | spot.After past ↦ λ here.
+          let behind = disk-at (start + 1) ds past slot (sym (found-after caps rest at past here) ∙ is) in
+          record { ahead = suc behind.ahead; is = let e = behind.is in omega arith; disk_there = behind.disk_there }
+    ] in
+    split (spot_at caps at) refl
+
+pub disk-in : (ds : List DeviceSpec) (at slot : ℕ) → found (capabilities_from 0 ds) at ≡ Some slot → (d : DeviceSpec) → (slice_index_or ds slot d).disk ≢ None
+disk-in ds at slot is d =
+    let there = disk-at 0 ds at slot is in
+    let same : there.ahead ≡ slot = let e = there.is in omega arith in
+    subst (λ (n : ℕ). (slice_index_or ds n d).disk ≢ None) same (there.disk_there d)
 
 -- the devices from a slot on
 pub drop-next : (ds : List DeviceSpec) (slot : ℕ) (d : DeviceSpec) → slot < length ds → d ≡ slice_index_or ds slot d → drop slot ds ≡ d ∷ drop (slot + 1) ds

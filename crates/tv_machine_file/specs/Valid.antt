@@ -1,5 +1,5 @@
 -- Which machines are valid.
-use Rattle.std.specs.Prelude.{◌≡◌, ◌≢◌, ℕ, ◌+◌, ◌%◌, ◌^◌, ◌≤◌, ◌⊎◌, false, List, [], ◌∷◌, ◌++◌, length, All, AllPairs, Option, Some, None}
+use Rattle.std.specs.Prelude.{◌≡◌, ◌≢◌, ℕ, ◌+◌, ◌%◌, ◌^◌, ◌≤◌, ◌⊎◌, false, List, ◌++◌, length, All, AllPairs, Option, Some, None, option_to_list}
 use Rattle.std.specs.List.{flat_map}
 use Rattle.tv_machine_file.specs.declared.kinds.DeviceKind.{DeviceKind}
 use Rattle.tv_machine_file.specs.declared.kinds.DeviceKind.TheVariants.{Block, Console, Entropy}
@@ -56,14 +56,11 @@ pub record IsValidDevice (ram : ℕ) (d : DeviceSpec) : Type 0 where
   pub apart : AllPairs AreApart d.mem
   pub files : HasFilesOf d.kind d
   pub sectors : d.sectors ≤ 2 ^ 31
+  pub diskless : d.disk ≡ None → d.sectors ≡ 0
 
 -- the names of the files that a device writes
-abbrev pub name_in : Option (List ℕ) → List (List ℕ)
-name_in None = []
-name_in (Some name) = name ∷ []
-
 abbrev pub written_files : DeviceSpec → List (List ℕ)
-written_files d = name_in d.disk ++ name_in d.output
+written_files d = option_to_list d.disk ++ option_to_list d.output
 
 -- two names, or two devices, that may stand in one machine
 abbrev pub AreDifferent : List ℕ → List ℕ → Type 0
