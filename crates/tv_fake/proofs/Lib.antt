@@ -2,3 +2,4 @@ pub mod Split
 pub mod Places
 pub mod Zero
 pub mod Views
+pub mod Raised

@@ -1,17 +1,25 @@
 -- Puts of a writer by the script of its sink.
-use Rattle.std.proofs.Common.{◌≡◌, ℕ, ◌+◌, ◌-◌, ◌^◌, ◌<◌, List, [], ◌∷◌, ◌++◌, Option, Some, None, Ok, Err, Contains, length, length-append, refl, sym, subst, inl, inr, arith}
+use Rattle.std.proofs.Common.{◌≡◌, ℕ, ◌+◌, ◌-◌, ◌^◌, ◌<◌, ◌≤◌, List, ◌++◌, Option, Some, None, Ok, Err, Contains, length, length-append, refl, sym, subst, inl, inr, arith}
 use Rattle.std.specs.Prelude.{⊤}
 use Rattle.std.specs.Option.{option_map}
 use Rattle.std.proofs.lemmas.Bool.{cases_lt}
 use Rattle.tv_out.specs.declared.Short.{Short}
-use Rattle.tv_out.specs.Calls.{RoomScript, IsFailing, next_count, after_call}
-use Rattle.tv_out.specs.Told.{IsPutWhole, FollowsPut, appended, WasRoom, FellShort}
+use Rattle.tv_out.specs.Calls.{RoomScript, IsFailing, next_count, after_call, calls_ahead}
+use Rattle.tv_out.specs.Told.{FollowsPut, appended, WasRoom, FellShort}
 use Rattle.tv_journal.specs.Writing.{IsMadeOn, IsLater, GoesOn}
 
 -- no call yet
 pub goes-none : (script : Option RoomScript) → GoesOn script script 0
 goes-none None = tt
-goes-none (Some script) = record { calls = 0; few = omega arith; made = inl (omega arith); failing = refl; room = refl }
+goes-none (Some script) = record {
+  calls = 0;
+  few = omega arith;
+  enough = omega arith;
+  worked = λ ahead within. absurd (omega arith);
+  made = inl (omega arith);
+  failing = refl;
+  room = refl;
+}
 
 -- one call more
 made-next : (start calls now : ℕ) → IsMadeOn start calls now → IsMadeOn start (calls + 1) (next_count now)
@@ -20,21 +28,9 @@ made-next start calls now made = elim made [
   | inr last ↦ let a = last.0 in let b = last.1 in inr (omega arith, omega arith)
 ]
 
-pub goes-next : (start now new : Option RoomScript) (most more : ℕ) → GoesOn start now most → new ≡ option_map after_call now → most < more → GoesOn start new more
-goes-next None now new most more goes is fewer = tt
-goes-next (Some start) None new most more goes is fewer = absurd goes
-goes-next (Some start) (Some now) new most more goes is fewer = rw is (record {
-  calls = goes.calls + 1;
-  few = let few = goes.few in omega arith;
-  made = made-next start.calls.made goes.calls now.calls.made goes.made;
-  failing = goes.failing;
-  room = goes.room;
-})
-
--- the next call fails as it was due to from the start
-due-from-start : (start now : RoomScript) (most : ℕ) (goes : IsLater start now most) → IsFailing now.calls
-    → IsFailing (record { made = start.calls.made + goes.calls; failing = start.calls.failing })
-due-from-start start now most goes failing = elim failing [
+-- the next call fails exactly where it was due to from the start
+due-from-start : (start now : RoomScript) (bytes : ℕ) (goes : IsLater start now bytes) → IsFailing now.calls → IsFailing (calls_ahead start.calls goes.calls)
+due-from-start start now bytes goes failing = elim failing [
   | inl listed ↦ elim goes.made [
     | inl exact ↦ inl (subst (λ (n : ℕ). Contains start.calls.failing n) exact (subst (λ (ns : List ℕ). Contains ns now.calls.made) goes.failing listed))
     | inr last ↦ inr last.0
@@ -42,34 +38,58 @@ due-from-start start now most goes failing = elim failing [
   | inr last ↦ elim goes.made [ inl exact ↦ inr (omega arith) | inr later ↦ inr later.0 ]
 ]
 
--- before any call, the first is due where it was from the start
-due-at-start : (start now : RoomScript) → IsLater start now 0 → IsFailing start.calls → IsFailing now.calls
-due-at-start start now goes failing =
-    let few = goes.few in
-    elim goes.made [
-      | inl exact ↦ elim failing [
-        | inl listed ↦ inl (subst (λ (ns : List ℕ). Contains ns now.calls.made) (sym goes.failing) (subst (λ (n : ℕ). Contains start.calls.failing n) (omega arith) listed))
-        | inr last ↦ inr (omega arith)
-      ]
-      | inr last ↦ inr last.1
-    ]
+due-by-start : (start now : RoomScript) (bytes : ℕ) (goes : IsLater start now bytes) → IsFailing (calls_ahead start.calls goes.calls) → IsFailing now.calls
+due-by-start start now bytes goes failing = elim goes.made [
+  | inl exact ↦ elim failing [
+    | inl listed ↦ inl (subst (λ (ns : List ℕ). Contains ns now.calls.made) (sym goes.failing) (subst (λ (n : ℕ). Contains start.calls.failing n) (sym exact) listed))
+    | inr last ↦ inr (omega arith)
+  ]
+  | inr last ↦ inr last.1
+]
 
-works-from-start : (start now : RoomScript) (held put : List ℕ) → IsLater start now (length put) → (0 < length put → IsPutWhole start (length held) (length put))
-    → ¬ (IsFailing now.calls) → ¬ (IsFailing start.calls)
-works-from-start start now held [] goes was_room works = λ failing. works (due-at-start start now goes failing)
-works-from-start start now held (byte ∷ put) goes was_room works = (was_room (omega arith)).works
+worked-next : (start now : RoomScript) (bytes : ℕ) (goes : IsLater start now bytes) → ¬ (IsFailing now.calls) → (ahead : ℕ) → ahead < goes.calls + 1 → ¬ (IsFailing (calls_ahead start.calls ahead))
+worked-next start now bytes goes works ahead within failing = elim (cases_lt ahead goes.calls) [
+  | inl before ↦ goes.worked ahead before failing
+  | inr last ↦
+      let same : ahead ≡ goes.calls = omega arith in
+      works (due-by-start start now bytes goes (subst (λ (n : ℕ). IsFailing (calls_ahead start.calls n)) same failing))
+]
 
 -- a piece more went out whole
-pub room-next : (start now : Option RoomScript) (told : Option (List ℕ)) (put piece : List ℕ) (before after : ℕ) (done : ⊤) → GoesOn start now (length put)
-    → (0 < length put → WasRoom start told (length put)) → FollowsPut now (appended told put) (length piece) before after (Ok done)
-    → WasRoom start told (length (put ++ piece))
-room-next None now told put piece before after done goes was_room follows = tt
-room-next (Some start) None told put piece before after done goes was_room follows = absurd goes
-room-next (Some start) (Some now) None put piece before after done goes was_room follows = tt
-room-next (Some start) (Some now) (Some held) put piece before after done goes was_room follows = record {
-  works = works-from-start start now held put goes was_room follows.0.works;
-  fits = let fits = follows.0.fits in let room = goes.room in omega (arith, length-append put piece, length-append held put);
+later-next : (start now : RoomScript) (put piece : List ℕ) → IsLater start now (length put) → 0 < length piece → length piece ≤ 4096 → ¬ (IsFailing now.calls)
+    → IsLater start (after_call now) (length (put ++ piece))
+later-next start now put piece goes some fits works = record {
+  calls = goes.calls + 1;
+  few = let few = goes.few in omega (arith, length-append put piece);
+  enough = let enough = goes.enough in omega (arith, length-append put piece);
+  worked = worked-next start now (length put) goes works;
+  made = made-next start.calls.made goes.calls now.calls.made goes.made;
+  failing = goes.failing;
+  room = goes.room;
 }
+
+works-by : (now : RoomScript) (told : Option (List ℕ)) (asked before after : ℕ) (done : ⊤) → FollowsPut (Some now) told asked before after (Ok done) → ¬ (IsFailing now.calls)
+works-by now None asked before after done follows = follows.0
+works-by now (Some held) asked before after done follows = follows.0.works
+
+pub goes-next : (start now new : Option RoomScript) (told : Option (List ℕ)) (put piece : List ℕ) (before after : ℕ) (done : ⊤) → GoesOn start now (length put) → new ≡ option_map after_call now
+    → 0 < length piece → length piece ≤ 4096 → FollowsPut now told (length piece) before after (Ok done) → GoesOn start new (length (put ++ piece))
+goes-next None now new told put piece before after done goes is some fits follows = tt
+goes-next (Some start) None new told put piece before after done goes is some fits follows = absurd goes
+goes-next (Some start) (Some now) new told put piece before after done goes is some fits follows =
+    rw is (later-next start now put piece goes some fits (works-by now told (length piece) before after done follows))
+
+pub room-next : (start now : Option RoomScript) (told : Option (List ℕ)) (put piece : List ℕ) (before after : ℕ) (done : ⊤) → GoesOn start now (length put)
+    → 0 < length piece → length piece ≤ 4096 → FollowsPut now (appended told put) (length piece) before after (Ok done) → WasRoom start told (length (put ++ piece))
+room-next None now told put piece before after done goes some fits follows = tt
+room-next (Some start) None told put piece before after done goes some fits follows = absurd goes
+room-next (Some start) (Some now) None put piece before after done goes some fits follows = tt
+room-next (Some start) (Some now) (Some held) put piece before after done goes some fits follows =
+    let later = later-next start now put piece goes some fits follows.0.works in
+    record {
+      works = λ ahead within. later.worked ahead (let enough = later.enough in omega arith);
+      fits = let room = goes.room in let fit = follows.0.fits in omega (arith, length-append put piece, length-append held put);
+    }
 
 -- a piece more fell short
 pub short-next : (start now : Option RoomScript) (told : Option (List ℕ)) (put piece more : List ℕ) (before after : ℕ) (short : Short) → GoesOn start now (length put)

@@ -1,5 +1,5 @@
 -- Bytes that are gathered in a piece and put when it is full.
-use Rattle.std.proofs.Common.{◌≡◌, ℕ, suc, ◌<◌, List, [], ◌∷◌, ◌++◌, Option, Result, Ok, Err, OnOk, OnErr, length, get_or, take, drop, refl, ap, sym, ◌∙◌, subst, append_assoc, append-nil, drop-cons, length-append, arith}
+use Rattle.std.proofs.Common.{◌≡◌, ℕ, suc, ◌<◌, ◌≤◌, List, [], ◌∷◌, ◌++◌, Option, Result, Ok, Err, OnOk, OnErr, length, get_or, take, drop, refl, ap, sym, ◌∙◌, subst, append_assoc, append-nil, drop-cons, arith}
 use Rattle.std.specs.Prelude.{⊤, flat_map}
 use Rattle.std.specs.Option.{option_map}
 use Rattle.std.proofs.lemmas.Grind.{flat_map-append}
@@ -24,25 +24,15 @@ writing-none start = record {
 }
 
 -- the piece went out
-pub writing-put : (written : List ℕ) (start old new : ToldSink) (piece : List ℕ) (done : ⊤) → IsWriting written start old piece → 0 < length piece → new.bytes ≡ appended old.bytes piece
+pub writing-put : (written : List ℕ) (start old new : ToldSink) (piece : List ℕ) (done : ⊤) → IsWriting written start old piece → 0 < length piece → length piece ≤ 4096 → new.bytes ≡ appended old.bytes piece
     → new.script ≡ option_map after_call old.script → FollowsPut old.script old.bytes (length piece) old.faults new.faults (Ok done) → IsWriting (written ++ []) start new []
-writing-put written start old new piece done so_far some told script follows = record {
+writing-put written start old new piece done so_far some fits told script follows = record {
   put = so_far.put ++ piece;
   parts = append-nil written ∙ so_far.parts ∙ sym (append-nil (so_far.put ++ piece));
   told = told ∙ ap (λ (t : Option (List ℕ)). appended t piece) so_far.told ∙ appended-twice start.bytes so_far.put piece;
-  goes_on = goes-next start.script old.script new.script (length so_far.put) (length (so_far.put ++ piece)) so_far.goes_on script (omega (arith, length-append so_far.put piece));
-  was_room = λ _. room-next start.script old.script start.bytes so_far.put piece old.faults new.faults done so_far.goes_on so_far.was_room
+  goes_on = goes-next start.script old.script new.script old.bytes so_far.put piece old.faults new.faults done so_far.goes_on script some fits follows;
+  was_room = λ _. room-next start.script old.script start.bytes so_far.put piece old.faults new.faults done so_far.goes_on some fits
       (subst (λ (t : Option (List ℕ)). FollowsPut old.script t (length piece) old.faults new.faults (Ok done)) so_far.told follows);
-}
-
--- bytes came into the piece
-pub writing-more : (written : List ℕ) (start now : ToldSink) (piece more : List ℕ) → IsWriting written start now piece → IsWriting (written ++ more) start now (piece ++ more)
-writing-more written start now piece more so_far = record {
-  put = so_far.put;
-  parts = ap (λ (xs : List ℕ). xs ++ more) so_far.parts ∙ append_assoc so_far.put piece more;
-  told = so_far.told;
-  goes_on = so_far.goes_on;
-  was_room = so_far.was_room;
 }
 
 -- the piece went out in part

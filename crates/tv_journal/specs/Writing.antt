@@ -1,7 +1,7 @@
 -- The writer of a journal file, which puts its bytes in pieces.
-use Rattle.std.specs.Prelude.{◌≡◌, ◌⊎◌, ℕ, ◌+◌, ◌-◌, ◌^◌, ◌<◌, ◌≤◌, ◌++◌, List, length, Option, Some, None, Result, Ok, Err, ⊤}
+use Rattle.std.specs.Prelude.{◌≡◌, ◌⊎◌, ℕ, ◌+◌, ◌-◌, ◌*◌, ◌^◌, ◌<◌, ◌≤◌, ◌++◌, List, length, Option, Some, None, Result, Ok, Err, ⊤}
 use Rattle.tv_base.specs.declared.Why.{Why}
-use Rattle.tv_out.specs.Calls.{RoomScript}
+use Rattle.tv_out.specs.Calls.{RoomScript, IsFailing, calls_ahead}
 use Rattle.tv_out.specs.Told.{ToldSink, appended, IsCut, WasRoom, FellShort}
 use Rattle.tv_journal.specs.declared.Entry.{Entry}
 use Rattle.tv_journal.specs.Grammar.{SpellsJournal}
@@ -10,21 +10,23 @@ use Rattle.tv_journal.specs.Grammar.{SpellsJournal}
 abbrev pub IsMadeOn : ℕ → ℕ → ℕ → Type 0
 IsMadeOn start calls now = (now ≡ start + calls) ⊎ ((2 ^ 64 - 1 ≤ start + calls) × (2 ^ 64 - 1 ≤ now))
 
--- a script after some calls, so many at most
-pub record IsLater (start now : RoomScript) (most : ℕ) : Type 0 where
+-- a script after some puts of so many bytes in all, none of which failed; each had 1 to 4096 bytes
+pub record IsLater (start now : RoomScript) (bytes : ℕ) : Type 0 where
   pub calls : ℕ
-  pub few : calls ≤ most
+  pub few : calls ≤ bytes
+  pub enough : bytes ≤ calls * 4096
+  pub worked : (ahead : ℕ) → ahead < calls → ¬ (IsFailing (calls_ahead start.calls ahead))
   pub made : IsMadeOn start.calls.made calls now.calls.made
   pub failing : now.calls.failing ≡ start.calls.failing
   pub room : now.room ≡ start.room
 
 -- the same, where a script is told
 abbrev pub GoesOn : Option RoomScript → Option RoomScript → ℕ → Type 0
-GoesOn None now most = Unit {0}
-GoesOn (Some start) None most = ⊥
-GoesOn (Some start) (Some now) most = IsLater start now most
+GoesOn None now bytes = Unit {0}
+GoesOn (Some start) None bytes = ⊥
+GoesOn (Some start) (Some now) bytes = IsLater start now bytes
 
--- of these bytes a front went out, and the rest waits in a piece; each put had a byte at least
+-- of these bytes a front went out, and the rest waits in a piece
 pub record IsWriting (written : List ℕ) (start now : ToldSink) (piece : List ℕ) : Type 0 where
   pub put : List ℕ
   pub parts : written ≡ put ++ piece

@@ -23,11 +23,15 @@ abbrev pub Foretold : {T E : Type 0} → Type 0 → ℕ → ℕ → Result T E �
 Foretold due before now (Ok _) = (¬ due) × (now ≡ before)
 Foretold due before now (Err _) = due × (now ≡ next_count before)
 
+-- the calls after so many more, their number not bounded
+abbrev pub calls_ahead : Calls → ℕ → Calls
+calls_ahead calls ahead = record { made = calls.made + ahead; failing = calls.failing }
+
 -- of the next so many calls one fails
 pub record FailsWithin (calls : Calls) (count : ℕ) : Type 0 where
   pub ahead : ℕ
   pub within : ahead < count
-  pub fails : IsFailing (record { made = calls.made + ahead; failing = calls.failing })
+  pub fails : IsFailing (calls_ahead calls ahead)
 
 -- where calls are told, a call failed exactly by its number
 abbrev pub FollowsCalls : {T E : Type 0} → Option Calls → ℕ → ℕ → Result T E → Type 0

@@ -23,12 +23,13 @@ NameRose None now name = Unit {0}
 NameRose (Some before) None name = Unit {0}
 NameRose (Some before) (Some now) name = Rose (before.count_of name) (now.count_of name)
 
--- a call on a name leaves the list of names, and the counts of the other names of the list; its own count never falls
+-- a call on a name leaves the list of names, and the counts of the other names of the list; no count falls, and the names
+-- outside the list share theirs
 pub record IsElsewhereSame (before now : NameFaults) (name : List ℕ) : Type 0 where
   pub names : now.names ≡ before.names
-  pub later : before.count_of name ≤ now.count_of name
   pub others : (other : List ℕ) → Contains before.names other → other ≢ name → now.count_of other ≡ before.count_of other
-  pub shared : (other : List ℕ) → ¬ (Contains before.names name) → ¬ (Contains before.names other) → now.count_of other ≡ now.count_of name
+  pub later : (any : List ℕ) → before.count_of any ≤ now.count_of any
+  pub shared : (one other : List ℕ) → ¬ (Contains before.names one) → ¬ (Contains before.names other) → now.count_of one ≡ now.count_of other
 
 -- the same, where counts of names are told; a store tells them always or never
 abbrev pub StaysElsewhere : Option NameFaults → Option NameFaults → List ℕ → Type 0

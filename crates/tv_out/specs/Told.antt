@@ -1,9 +1,9 @@
 -- What an object outside the program tells of itself: its count of faults always, and what it holds where it can.
-use Rattle.std.specs.Prelude.{ℕ, ◌+◌, ◌-◌, ◌<◌, ◌≤◌, ◌≡◌, ◌⊎◌, ◌++◌, List, [], Option, Some, None, Result, Ok, Err, take, length, min}
+use Rattle.std.specs.Prelude.{ℕ, ◌+◌, ◌-◌, ◌*◌, ◌<◌, ◌≤◌, ◌≡◌, ◌⊎◌, ◌++◌, List, [], Option, Some, None, Result, Ok, Err, take, length, min, IsSome}
 use Rattle.std.specs.Option.{option_map}
 use Rattle.tv_out.specs.declared.Short.{Short}
 use Rattle.tv_out.specs.Faults.{NameFaults}
-use Rattle.tv_out.specs.Calls.{Calls, RoomScript, IsFailing, FailsWithin, IsUncalled, Foretold, next_count, calls_of}
+use Rattle.tv_out.specs.Calls.{Calls, RoomScript, IsFailing, FailsWithin, IsUncalled, calls_ahead, Foretold, next_count, calls_of}
 use Rattle.tv_out.specs.Disk.{ToldDisk}
 use Rattle.tv_out.specs.Shelf.{Named}
 
@@ -97,23 +97,29 @@ abbrev pub IsPutShort : RoomScript → ℕ → ℕ → ℕ → Type 0
 IsPutShort script held asked taken =
     (IsFailing script.calls × (taken ≡ 0)) ⊎ ((script.room < held + asked) × (taken ≡ script.room - held) × ¬ (IsFailing script.calls))
 
--- where a script is told, and the bytes, a put is one or the other, and the sink counts a fault where it fell short
+-- where a script is told, a put is one or the other, and the sink counts a fault where it fell short; the room is spoken of
+-- where the bytes are told too
 abbrev pub FollowsPut : {T : Type 0} → Option RoomScript → Option (List ℕ) → ℕ → ℕ → ℕ → Result T Short → Type 0
 FollowsPut None told asked before now result = Unit {0}
-FollowsPut (Some script) None asked before now result = Unit {0}
+FollowsPut (Some script) None asked before now (Ok _) = (¬ (IsFailing script.calls)) × (now ≡ before)
+FollowsPut (Some script) None asked before now (Err short) = now ≡ next_count before
 FollowsPut (Some script) (Some held) asked before now (Ok _) = IsPutWhole script (length held) asked × (now ≡ before)
 FollowsPut (Some script) (Some held) asked before now (Err short) =
     IsPutShort script (length held) asked short.taken × (now ≡ next_count before)
 
--- where a script is told, and the bytes, puts of so many bytes in all went out whole: the first of them is no call that
--- fails, and there was room
+-- puts of so many bytes in all went out whole by a script: no call failed that these bytes needed, since a put takes
+-- 4096 bytes at most, and there was room
+pub record IsAllTaken (script : RoomScript) (held asked : ℕ) : Type 0 where
+  pub works : (ahead : ℕ) → ahead * 4096 < asked → ¬ (IsFailing (calls_ahead script.calls ahead))
+  pub fits : held + asked ≤ script.room
+
+-- the same, where a script and the bytes are told
 abbrev pub WasRoom : Option RoomScript → Option (List ℕ) → ℕ → Type 0
 WasRoom None told asked = Unit {0}
 WasRoom (Some script) None asked = Unit {0}
-WasRoom (Some script) (Some held) asked = IsPutWhole script (length held) asked
+WasRoom (Some script) (Some held) asked = IsAllTaken script (length held) asked
 
--- where a script is told, and the bytes, puts of so many bytes in all fell short: one of so many calls fails, as each
--- puts a byte at least, or there was no room
+-- and they fell short: one of so many calls fails, as a put has a byte at least, or there was no room
 abbrev pub FellShort : Option RoomScript → Option (List ℕ) → ℕ → Type 0
 FellShort None told asked = Unit {0}
 FellShort (Some script) None asked = Unit {0}
@@ -137,11 +143,17 @@ FollowsFill None left asked before now result = Unit {0}
 FollowsFill (Some calls) left asked before now result =
     Foretold (IsFailing calls ⊎ IsShortOf left asked) before now result
 
+-- with a script the bytes are told too
+abbrev pub TellsBytes : Option RoomScript → Option (List ℕ) → Type 0
+TellsBytes None told = Unit {0}
+TellsBytes (Some script) told = IsSome told
+
 -- a sink as it is created
 pub record IsCreatedSink (sink : ToldSink) : Type 0 where
   pub faults : sink.faults ≡ 0
   pub bytes : IsSpent sink.bytes
   pub calls : IsUncalled (calls_of sink.script)
+  pub tells : TellsBytes sink.script sink.bytes
 
 -- a source as it is opened
 pub record IsOpenedSource (source : ToldSource) : Type 0 where

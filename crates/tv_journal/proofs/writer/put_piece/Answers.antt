@@ -14,5 +14,5 @@ returns-in-Err-clause-err g c = λ (start : ToldSink) (written : List ℕ) (so_f
 pub returns-clause-ok : goal.returns-clause-ok
 returns-clause-ok g c = λ (start : ToldSink) (written : List ℕ) (so_far : IsWriting written start (g.K.Sink.told c.args.sink.now) c.args.piece.now.items).
     let some : 0 < length c.args.piece.now.items = omega (arith, eqb-false (length c.args.piece.now.items) 0 (sym c.if-is_empty.ensures)) in
-    writing-put written start (g.K.Sink.told c.args.sink.now) (g.K.Sink.told c.put.new.self) c.args.piece.now.items c.in-Ok.field-0 so_far some
+    writing-put written start (g.K.Sink.told c.args.sink.now) (g.K.Sink.told c.put.new.self) c.args.piece.now.items c.in-Ok.field-0 so_far some (rw c.deref.ensures.0 at c.deref.ensures.1)
     (rw c.deref.ensures.0 at c.in-Ok.ensures.told) c.in-Ok.ensures.script (rw c.deref.ensures.0 at c.in-Ok.ensures.follows)

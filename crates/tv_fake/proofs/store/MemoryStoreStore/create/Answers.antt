@@ -1,6 +1,7 @@
-use Rattle.std.proofs.Common.{Ok, Err, refl}
+use Rattle.std.proofs.Common.{Ok, Err, refl, arith}
 use Rattle.tv_base.specs.declared.Failed.{Failed}
 use Rattle.tv_fake.specs.Opened.{created_sink}
+use Rattle.tv_fake.proofs.Raised.{raised-none}
 use Rattle.tv_fake.proofs.Views.{given, not_due, due, shelf-given}
 use Rattle.tv_fake.proofs.store.MemoryStoreStore.create.Goals as goal
 
@@ -27,3 +28,11 @@ returns-in-Err-clause-follows c = (
 pub returns-in-Err-clause-script : goal.returns-in-Err-clause-script
 returns-in-Err-clause-script c =
     rw (c.in-Err.ensures.counted, shelf-given {X = Unit {0}} created_sink c.args.name.now c.args.self.now.objects.sinks.items c.give.new.shelf.items (Err c.in-Err.failed) c.in-Err.ensures.shelf) refl
+
+pub returns-in-Ok-clause-asked : goal.returns-in-Ok-clause-asked
+returns-in-Ok-clause-asked c = record {
+  files = refl;
+  elsewhere = rw c.in-Ok.ensures.gift.2 (raised-none c.args.self.now.tally.counts.items c.args.self.now.tally.others c.args.name.now);
+  cause = rw c.in-Ok.ensures.gift.2 (record { later = omega arith; failed = tt });
+  at_name = tt;
+}

@@ -1,5 +1,6 @@
 use Rattle.std.proofs.Common.{rules, inr, ap, sym, ◌∙◌}
 use Rattle.tv_out.specs.Calls.{next_count}
+use Rattle.tv_fake.proofs.Raised.{raised-none}
 use Rattle.tv_fake.proofs.Views.{given, not_due, due}
 use Rattle.tv_fake.proofs.store.MemoryStoreStore.load.Goals as goal
 
@@ -43,3 +44,15 @@ returns-in-Err-clause-follows c = (
       c.if-not-admit.ensures.admission.0 (sym c.in-Some.ensures),
   ap (λ tally. tally.total) c.if-not-admit.ensures.admission.1,
 )
+
+pub returns-then-len-most-clause-elsewhere : goal.returns-then-len-most-clause-elsewhere
+returns-then-len-most-clause-elsewhere c =
+    rw c.if-not-admit.ensures.admission.1 (raised-none c.args.self.now.tally.counts.items c.args.self.now.tally.others c.args.name.now)
+
+pub returns-in-Ok-clause-elsewhere : goal.returns-in-Ok-clause-elsewhere
+returns-in-Ok-clause-elsewhere c =
+    rw c.if-not-admit.ensures.admission.1 (raised-none c.args.self.now.tally.counts.items c.args.self.now.tally.others c.args.name.now)
+
+pub returns-in-Err-clause-elsewhere : goal.returns-in-Err-clause-elsewhere
+returns-in-Err-clause-elsewhere c =
+    rw c.if-not-admit.ensures.admission.1 (raised-none c.args.self.now.tally.counts.items c.args.self.now.tally.others c.args.name.now)
