@@ -16,11 +16,11 @@ const HELLO_JOURNAL: [u8; 15] = [
     b'T', b'V', b'J', b'1', 0x01, 0, 7, 0, 0, 0, 0x00, 1, 0, 0, 0,
 ];
 
-/// A path of this process's own for a temporary file.
-fn path(rt: &HostRuntime, name: &str) -> Result<String, Fail> {
+/// A path of this process's own for a temporary file of a test.
+fn path(rt: &HostRuntime, test: &str, name: &str) -> Result<String, Fail> {
     let folder = env::temp_dir(rt)?;
     let id = process::id(rt.process());
-    Ok(format!(in rt.alloc(); "{}/tv-{id}-{name}", folder.as_str())?)
+    Ok(format!(in rt.alloc(); "{}/tv-{id}-{test}-{name}", folder.as_str())?)
 }
 
 /// What a command answered: its status, and what it put to both outputs.
@@ -38,14 +38,14 @@ fn taken(rt: &HostRuntime, path: &str) -> Result<Vec<u8>, Fail> {
     Ok(bytes)
 }
 
-/// Serves words over the files of the system.
-fn serve(rt: &HostRuntime, words: &[&str]) -> Result<Answer, Fail> {
+/// Serves words for a test over the files of the system.
+fn serve(rt: &HostRuntime, test: &str, words: &[&str]) -> Result<Answer, Fail> {
     let mut texts = Vec::new(rt.alloc());
     for word in words {
         texts.push(String::from_str(rt.alloc(), word)?)?;
     }
-    let out = path(rt, "out")?;
-    let err = path(rt, "err")?;
+    let out = path(rt, test, "out")?;
+    let err = path(rt, test, "err")?;
     let mut outside = PlainOutside {
         store: FileStore::new(rt),
         out: WriterSink::new(fs::create(rt, &out)?),
@@ -69,14 +69,14 @@ fn expect(rt: &impl Abort, answer: &Answer, status: u8, out: &str, err: &str) {
 
 #[test]
 fn journals_go_to_their_file_and_are_replayed(rt: HostRuntime) -> Result<(), Fail> {
-    let image = path(&rt, "image")?;
-    let journal = path(&rt, "journal")?;
+    let image = path(&rt, "hello", "image")?;
+    let journal = path(&rt, "hello", "journal")?;
     fs::write(&rt, &image, HELLO.as_slice())?;
     // What the file held before is gone.
     fs::write(&rt, &journal, [7; 4096].as_slice())?;
-    let ran = serve(&rt, &["flat", &image, "--journal", &journal])?;
-    let replayed = serve(&rt, &["replay", "--flat", &image, &journal])?;
-    let unwritten = serve(&rt, &["flat", "--journal=/", &image])?;
+    let ran = serve(&rt, "hello", &["flat", &image, "--journal", &journal])?;
+    let replayed = serve(&rt, "hello", &["replay", "--flat", &image, &journal])?;
+    let unwritten = serve(&rt, "hello", &["flat", "--journal=/", &image])?;
     let saved = taken(&rt, &journal)?;
     fs::remove_file(&rt, &image)?;
     expect(&rt, &ran, 0, "A", "");
@@ -84,5 +84,27 @@ fn journals_go_to_their_file_and_are_replayed(rt: HostRuntime) -> Result<(), Fai
     let line = "legal: 1 records, 7 events, status 0\n";
     expect(&rt, &replayed, 0, line, "");
     expect(&rt, &unwritten, 5, "", "tv: cannot write\n");
+    Ok(())
+}
+
+#[test]
+fn a_journal_of_more_bytes_than_a_put_takes_is_whole(rt: HostRuntime) -> Result<(), Fail> {
+    let image = path(&rt, "spin", "image")?;
+    let journal = path(&rt, "spin", "journal")?;
+    // A jump to itself.
+    fs::write(&rt, &image, [0x6f, 0, 0, 0].as_slice())?;
+    let words = ["flat", "--steps=30000", &image, "--journal", &journal];
+    let ran = serve(&rt, "spin", &words)?;
+    let saved = taken(&rt, &journal)?;
+    fs::remove_file(&rt, &image)?;
+    expect(&rt, &ran, 6, "", "tv: step limit 30000\n");
+    // 468 turns of 64 events, each with a tick of 64 after it, and 48 events.
+    let mut bytes = Vec::from_slice(rt.alloc(), b"TVJ1")?;
+    for _ in 0..468 {
+        bytes.extend_from_slice(&[1, 0, 64, 0, 0, 0, 0x0b, 64, 0, 0, 0])?;
+    }
+    bytes.extend_from_slice(&[1, 0, 48, 0, 0, 0])?;
+    bytes.extend_from_slice(&[0, 0xa9, 0x03, 0, 0])?;
+    assert_eq!(rt; saved.as_slice(), bytes.as_slice());
     Ok(())
 }

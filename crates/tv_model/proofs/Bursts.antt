@@ -32,7 +32,7 @@ use Rattle.tv_model.specs.Guest.{state_of, AreMade}
 use Rattle.tv_model.specs.GuestState.{GuestState}
 use Rattle.tv_model.specs.Monitor.{IsStep, IsMonitorBurst}
 use Rattle.tv_model.specs.MonitorState.{MonitorState}
-use Rattle.tv_model.proofs.Made.{seen as seen-guest, same_state, same_function, hart_put, ending-is-not-running}
+use Rattle.tv_model.proofs.States.{seen as seen-guest, same_state, same_function, hart_put, ending-is-not-running}
 
 -- functions of a number with a value put at a place
 pub update-at : {A : Type 0} → (f : ℕ → A) → (k : ℕ) → (a : A) → update f k a k ≡ a

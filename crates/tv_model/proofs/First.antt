@@ -1,9 +1,6 @@
 -- Harts at their start.
-use Rattle.std.proofs.Common.{◌≡◌, ℕ, ◌+◌, ◌≤◌, List, [], ◌∷◌, ◌++◌, Bool, true, false, leb, length, get_or, refl, ap, sym, ◌∙◌, subst, arith, length-append, inl, inr}
-use Rattle.std.specs.List.{AllByRecursion}
-use Rattle.std.proofs.Math.ListN.{get_or-eq_default}
-use Rattle.std.proofs.lemmas.Bool.{cases_lt, le-leb}
-use Rattle.std.proofs.lemmas.List.{get_or_append_left, get_or_push}
+use Rattle.std.proofs.Common.{◌≡◌, ℕ, ◌+◌, ◌≤◌, List, Bool, true, false, leb, length, get_or, refl, ap, ◌∙◌, subst, arith, inl, inr}
+use Rattle.std.proofs.lemmas.Bool.{le-leb}
 use Rattle.tv_hart.specs.Hart.{first_hart}
 use Rattle.tv_hart.specs.HartState.{HartState}
 use Rattle.std.specs.Bool.{OnTrue}
@@ -15,31 +12,8 @@ use Rattle.tv_spec.specs.declared.Mode.TheVariants as mode
 use Rattle.tv_spec.specs.declared.Shown.TheVariants as shown
 use Rattle.tv_spec.specs.LocalState.{LocalState}
 use Rattle.tv_spec.specs.Setup.{Setup}
-use Rattle.tv_model.specs.Guest.{AreFirst, IsReady, IsFirst}
-use Rattle.tv_model.proofs.Made.{same_state, same_function, seen}
-
-pub none-first : AreFirst [] 0
-none-first = record { count_is = refl; each = λ number. refl; ready = tt }
-
-pub ready-push : (harts : List HartState) (hart : HartState) → AllByRecursion IsReady harts → IsReady hart → AllByRecursion IsReady (harts ++ hart ∷ [])
-ready-push [] hart ready here = (here, tt)
-ready-push (first ∷ harts) hart ready here = (ready.0, ready-push harts hart ready.1 here)
-
--- a hart more
-pub one-more : (harts : List HartState) (count : ℕ) → AreFirst harts count → AreFirst (harts ++ first_hart count ∷ []) (count + 1)
-one-more harts count first = record {
-  count_is = omega (arith, length-append harts (first_hart count ∷ []), first.count_is);
-  each = λ (k : ℕ). elim (cases_lt k (length harts)) [
-    | inl before ↦ get_or_append_left harts (first_hart count ∷ []) (first_hart k) k before ∙ first.each k
-    | inr not_before ↦ elim (cases_lt (length harts) k) [
-      | inl behind ↦ get_or-eq_default (harts ++ first_hart count ∷ []) (first_hart k) {n = k} (omega (arith, length-append harts (first_hart count ∷ [])))
-      | inr not_behind ↦
-          let here : length harts ≡ k = omega arith in
-          get_or_push harts (first_hart count) (first_hart k) k here ∙ ap first_hart (sym first.count_is ∙ here)
-    ]
-  ];
-  ready = ready-push harts (first_hart count) first.ready refl;
-}
+use Rattle.tv_model.specs.Guest.{AreFirst, IsFirst}
+use Rattle.tv_model.proofs.States.{same_state, same_function, seen}
 
 pub all-first : (harts : List HartState) (count : ℕ) → AreFirst harts count → ◌≡◌ {A = ℕ → HartState} (λ k. get_or harts k (first_hart k)) first_hart
 all-first harts count first = same_function _ _ first.each

@@ -1,6 +1,6 @@
 pub mod AtOnce
 pub mod Bursts
 pub mod First
-pub mod Made
+pub mod States
 pub mod Stepping
 pub mod Played

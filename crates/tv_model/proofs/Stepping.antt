@@ -15,13 +15,13 @@ use Rattle.tv_machine_file.specs.declared.machine.Machine.{Machine}
 use Rattle.tv_spec.specs.Legal.{IsLegal, IsLegalRun, HasPlace, after, with_outer}
 use Rattle.tv_spec.specs.Setup.{Setup, setup_of}
 use Rattle.tv_spec.specs.State.{State, first_state}
-use Rattle.tv_spec.specs.Step.{Move, made, ended, Can}
+use Rattle.tv_spec.specs.Step.{Move, made, ended}
 use Rattle.tv_spec.proofs.Moves.{after-append, legal-append, legal-parts}
 use Rattle.tv_model.specs.Burst.{events_of}
 use Rattle.tv_model.specs.Guest.{state_of, AreMade, IsMade}
 use Rattle.tv_model.specs.GuestState.{GuestState}
 use Rattle.tv_model.specs.Replay.{IsFirstIllegal, entry_count}
-use Rattle.tv_model.specs.Replaying.{StopsAmong, HasCause, HasLeft, due, not_due, closer}
+use Rattle.tv_model.specs.Replaying.{HasCause, HasLeft, due, not_due, closer}
 
 -- a run with such an entry or end is not legal
 pub first-illegal : (machine : Machine) (image : List ℕ) (entries : List Entry) (outer : Option (ℕ × Why)) (n : ℕ) → IsFirstIllegal machine image entries outer n
@@ -36,9 +36,6 @@ pub at_same : (P : Setup → State → Type 0) (a b : Setup) (s t : State) → a
 at_same P a b s t setup state is = subst (λ (x : Setup). P x t) setup (subst (λ (y : State). P a y) state is)
 
 -- moves made, one after the other
-pub made-none : (guest : GuestState) → AreMade guest guest []
-made-none guest = record { legal = tt; setup = refl; state = refl }
-
 pub made-one : (old new : GuestState) (move : Move) → IsMade old new move → AreMade old new (move ∷ [])
 made-one old new move is = record { legal = (is.can, tt); setup = is.setup; state = is.state }
 
@@ -57,15 +54,6 @@ made-append old mid new first rest before more =
 pub made-again : (old mid new : GuestState) (e : Entry) (n : ℕ) → AreMade old mid (replicate n (made e)) → IsMade mid new (made e) → AreMade old new (replicate (n + 1) (made e))
 made-again old mid new e n before more =
     subst (AreMade old new) (sym (replicate_next n (made e))) (made-append old mid new (replicate n (made e)) (made e ∷ []) before (made-one mid new (made e) more))
-
-pub stops-at : (old mid : GuestState) (e : Entry) (n count : ℕ) → AreMade old mid (replicate n (made e)) → n < count → (Can mid.setup (state_of mid) (made e) → ⊥)
-    → StopsAmong old e count
-stops-at old mid e n count before few cannot = record {
-  times = n;
-  few = few;
-  legal = before.legal;
-  cannot = at_same (λ setup s. Can setup s (made e) → ⊥) mid.setup old.setup (state_of mid) (after old.setup (state_of old) (replicate n (made e))) before.setup before.state cannot;
-}
 
 -- the moves to come: an outer end that is due, and the rest
 pub with-due : (es : List Entry) (outer : Option (ℕ × Why)) → with_outer es outer ≡ due outer ++ with_outer es (not_due outer)

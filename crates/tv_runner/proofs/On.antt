@@ -17,16 +17,6 @@ pub record IsOn (whole rest : Solo → Going) (old now : Held) : Type 0 where
   pub outer : now.journal.outer ≡ old.journal.outer
   pub runs : now.guest.mode ≡ mode.Running
 
-pub on-start : (whole rest : Solo → Going) (old : Held) → ((solo : Solo) → rest solo ≡ whole solo) → old.guest.mode ≡ mode.Running → IsOn whole rest old old
-on-start whole rest old same runs = record {
-  leads = λ before. same (solo_at old before);
-  so_far = λ first before is. is;
-  setup = refl;
-  room = refl;
-  outer = refl;
-  runs = runs;
-}
-
 pub on-part : (whole rest next part : Solo → Going) (old now new : Held) → IsOn whole rest old now → ((solo : Solo) → rest solo ≡ onward next (part solo)) → IsPart part now new None → IsOn whole next old new
 on-part whole rest next part old now new on split is = record {
   leads = λ before. ap (onward next) (is.made before) ∙ sym (split (solo_at now before)) ∙ on.leads before;
@@ -87,18 +77,6 @@ part-twice first second old now new result one two = record {
   room = two.room ∙ one.room;
   outer = two.outer ∙ one.outer;
   mode_is = two.mode_is;
-}
-
--- and one that stopped before the other
-pub part-alone : (first second : Solo → Going) (old new : Held) (stopped : Stop) → IsPart first old new (Some stopped)
-    → IsPart (λ solo. onward second (first solo)) old new (Some stopped)
-part-alone first second old new stopped one = record {
-  made = λ before. ap (onward second) (one.made before);
-  so_far = one.so_far;
-  setup = one.setup;
-  room = one.room;
-  outer = one.outer;
-  mode_is = one.mode_is;
 }
 
 -- below the limit before and after

@@ -3,7 +3,7 @@ use Rattle.std.proofs.Common.{◌≡◌, ℕ, ◌≤◌, List, [], ◌++◌, ref
 use Rattle.std.specs.Bool.{OnTrue, OnFalse}
 use Rattle.tv_out.specs.Faults.{Rose}
 use Rattle.tv_out.specs.Told.{ToldSink, appended, IsCut}
-use Rattle.tv_out.proofs.Appended.{appended-nil, appended-twice}
+use Rattle.tv_out.proofs.Appended.{appended-twice}
 use Rattle.tv_top.specs.Texts.{IsSaid}
 
 -- a part went out only in part, and nothing after it
@@ -30,10 +30,6 @@ said-on part more old mid new told later said = record {
 -- the last part went out
 pub said-last : (part : List ℕ) (old new : ToldSink) → new.bytes ≡ appended old.bytes part → IsSaid part old new
 said-last part old new told = record { front = part; rest = []; parts = sym (append-nil part); told = told; whole = inl refl }
-
--- nothing was to be said
-pub said-none : (old : ToldSink) → IsSaid [] old old
-said-none old = record { front = []; rest = []; parts = refl; told = sym (appended-nil old.bytes); whole = inl refl }
 
 -- the last part went out, or not whole, as a put says
 pub said-last-if : (done : Bool) (part : List ℕ) (old new : ToldSink) → OnTrue done (new.bytes ≡ appended old.bytes part)

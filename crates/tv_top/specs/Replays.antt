@@ -89,7 +89,7 @@ pub record ReplayAsks (image journal : List ℕ) (before after : ToldStore) : Ty
 abbrev pub ReplayGives : List ℕ → List ℕ → ToldStore → ToldStore → ToldSink → ToldSink → Result ⊤ ReplayRefusal → Type 0
 ReplayGives image journal before after old new (Ok done) = IsReplayed image journal before old new (Ok done)
 ReplayGives image journal before after old new (Err refusal.Unwritable) = IsReplayed image journal before old new (Err refusal.Unwritable)
-ReplayGives image journal before after old new (Err (refusal.Image why)) = IsNotLoaded image before after why × (new ≡ old)
+ReplayGives image journal before after old new (Err (refusal.Image why)) = IsNotLoaded image before after why × IsLoad image before after × (new ≡ old)
 ReplayGives image journal before after old new (Err refusal.Unreadable) = IsWithout image journal before after refusal.Unreadable × (new ≡ old)
 ReplayGives image journal before after old new (Err (refusal.NoJournal n)) = IsWithout image journal before after (refusal.NoJournal n) × (new ≡ old)
 ReplayGives image journal before after old new (Err (refusal.Illegal n)) = IsIllegalIn image journal before n × (new ≡ old)

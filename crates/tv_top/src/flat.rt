@@ -2,7 +2,8 @@
 
 ghost use Rattle.std.specs.Prelude.{◌≡◌, ◌<◌, ◌≤◌, IfOk, IfErr, OnErr, length};
 ghost use Rattle.std.specs.Option.{option_map};
-ghost use Rattle.tv_top.specs.Flat.{FlatGives, FlatAsks, IsLoad, HasImage, IsNotLoaded, SavedBy, flat_with};
+ghost use Rattle.std.specs.Result.{result_map_both};
+ghost use Rattle.tv_top.specs.Flat.{FlatGives, FlatAsks, IsLoad, IsCreation, HasImage, IsNotLoaded, SavedBy, flat_with};
 ghost use Rattle.tv_runner.specs.Runs.{IsRun};
 ghost use Rattle.tv_top.specs.Texts.{run_status, stop_status};
 
@@ -68,10 +69,7 @@ pub fn run_flat<S: Store, O: Sink>(
 {
     let image = load_image(alloc, name, store)?;
     let file = match journal {
-        Some(journal) => match store.create(journal) {
-            Ok(file) => Some(file),
-            Err(_) => return Err(Refusal::Unwritable),
-        },
+        Some(journal) => Some(create_file(journal, store)?),
         None => None,
     };
     match run_image(alloc, &image, steps, out) {
@@ -99,6 +97,17 @@ pub fn load_image<S: Store>(alloc: Global, name: &str, store: &mut S) -> Result<
         return Err(Refusal::Misfit);
     }
     Ok(image)
+}
+
+/// The file that a journal is to go to.
+fn create_file<S: Store>(name: &str, store: &mut S) -> Result<S::Sink, Refusal>
+    ensures creation { IsCreation name.now (S.told store.old) (S.told store.new) (result_map_both S.Sink.told (λ refusal. refusal) result) }
+    ensures refused { IfErr result (λ refusal. refusal ≡ Refusal.Unwritable) }
+{
+    match store.create(name) {
+        Ok(file) => Ok(file),
+        Err(_) => Err(Refusal::Unwritable),
+    }
 }
 
 /// The run of an image on the flat machine.

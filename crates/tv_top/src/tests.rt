@@ -30,12 +30,12 @@ fn numbers(rt: &impl AllocGlobal, numbers: &[u64]) -> Result<Vec<u64>, Fail> {
     Ok(Vec::from_slice(rt.alloc(), numbers)?)
 }
 
-/// A store that knows the names `image` and `journal`, has these files, and fails the calls with these numbers. The file `journal` that it can create has room for so
-/// many bytes.
+/// A store that knows the names `image` and `journal`, has these files, and fails the calls with these numbers. The file
+/// `journal` that it can create is this sink.
 fn files(
     rt: &impl AllocGlobal,
     files: &[(&str, &[u8])],
-    room: usize,
+    journal: MemorySink,
     failing: &[u64],
 ) -> Result<MemoryStore, Fail> {
     let mut objects = Objects::new(rt.alloc());
@@ -46,7 +46,7 @@ fn files(
             .push(Named::new(name, Vec::from_slice(rt.alloc(), bytes)?))?;
     }
     let name = String::from_str(rt.alloc(), "journal")?;
-    objects.sinks.push(Named::new(name, sink(rt, room, &[])?))?;
+    objects.sinks.push(Named::new(name, journal))?;
     let mut names = Vec::new(rt.alloc());
     names.push(String::from_str(rt.alloc(), "image")?)?;
     names.push(String::from_str(rt.alloc(), "journal")?)?;
@@ -108,7 +108,7 @@ fn expect(rt: &impl Abort, answer: &Answer, status: u8, out: &str, err: &str) {
 
 /// Runs `flat image` on these bytes.
 fn run(rt: &impl AllocGlobal, image: &[u8]) -> Result<Answer, Fail> {
-    let store = files(rt, &[("image", image)], 0, &[])?;
+    let store = files(rt, &[("image", image)], sink(rt, 0, &[])?, &[])?;
     serve(rt, &["flat", "image"], store, sink(rt, 64, &[])?)
 }
 
@@ -195,7 +195,7 @@ fn words_that_are_no_command_line_are_refused(rt: HostRuntime) -> Result<(), Fai
         &["run", "image"],
     ];
     for words in rows {
-        let store = files(&rt, &[("image", &HELLO)], 64, &[])?;
+        let store = files(&rt, &[("image", &HELLO)], sink(&rt, 64, &[])?, &[])?;
         let answer = serve(&rt, words, store, sink(&rt, 64, &[])?)?;
         expect(&rt, &answer, 2, "", "tv: bad command line\n");
         assert!(rt; answer.journal.is_none());
@@ -205,27 +205,73 @@ fn words_that_are_no_command_line_are_refused(rt: HostRuntime) -> Result<(), Fai
 
 #[test]
 fn faults_outside_have_their_statuses(rt: HostRuntime) -> Result<(), Fail> {
-    // Each by the image's name, the calls of the store that fail, the puts of the output that fail, the room of the
-    // journal's file, and whether a run began.
-    let rows: [(&str, &[u64], &[u64], usize, u8, &str, &str, bool); 6] = [
+    // Each by the image's name, the calls that fail of the store, of the output and of the journal's file, the room of
+    // that file, and whether a run began.
+    let rows: [(&str, [&[u64]; 3], usize, u8, &str, &str, bool); 8] = [
         (
             "image",
-            &[0],
-            &[],
+            [&[0], &[], &[]],
             64,
             4,
             "",
             "tv: cannot read image\n",
             false,
         ),
-        ("-", &[], &[], 64, 4, "", "tv: cannot read -\n", false),
-        ("image", &[1], &[], 64, 5, "", "tv: cannot write\n", false),
-        ("image", &[], &[0], 64, 5, "", "tv: cannot write\n", true),
-        ("image", &[], &[], 14, 5, "A", "tv: cannot write\n", true),
-        ("image", &[], &[1], 15, 0, "A", "", true),
+        (
+            "-",
+            [&[], &[], &[]],
+            64,
+            4,
+            "",
+            "tv: cannot read -\n",
+            false,
+        ),
+        (
+            "image",
+            [&[1], &[], &[]],
+            64,
+            5,
+            "",
+            "tv: cannot write\n",
+            false,
+        ),
+        (
+            "image",
+            [&[], &[0], &[]],
+            64,
+            5,
+            "",
+            "tv: cannot write\n",
+            true,
+        ),
+        (
+            "image",
+            [&[], &[], &[0]],
+            64,
+            5,
+            "A",
+            "tv: cannot write\n",
+            true,
+        ),
+        ("image", [&[], &[], &[1]], 64, 0, "A", "", true),
+        (
+            "image",
+            [&[], &[], &[]],
+            14,
+            5,
+            "A",
+            "tv: cannot write\n",
+            true,
+        ),
+        ("image", [&[], &[1], &[]], 15, 0, "A", "", true),
     ];
-    for (name, calls, puts, room, status, out, line, began) in rows {
-        let store = files(&rt, &[("image", &HELLO)], room, calls)?;
+    for (name, [calls, puts, file_puts], room, status, out, line, began) in rows {
+        let store = files(
+            &rt,
+            &[("image", &HELLO)],
+            sink(&rt, room, file_puts)?,
+            calls,
+        )?;
         let words = ["flat", "--journal", "journal", name];
         let answer = serve(&rt, &words, store, sink(&rt, 64, puts)?)?;
         expect(&rt, &answer, status, out, line);
@@ -254,7 +300,7 @@ fn journals_are_left_and_replayed(rt: HostRuntime) -> Result<(), Fail> {
         file[6] = count;
         let (held, _) = file.as_slice().split_at(bytes.min(file.len()));
         let given: &[(&str, &[u8])] = &[("image", &HELLO), ("journal", held)];
-        let store = files(&rt, given, 0, &[])?;
+        let store = files(&rt, given, sink(&rt, 0, &[])?, &[])?;
         let words = ["replay", "image", "--flat", "journal"];
         let answer = serve(&rt, &words, store, sink(&rt, 64, &[])?)?;
         expect(&rt, &answer, status, out, line);
@@ -264,7 +310,12 @@ fn journals_are_left_and_replayed(rt: HostRuntime) -> Result<(), Fail> {
 
 #[test]
 fn runs_stop_at_their_limit(rt: HostRuntime) -> Result<(), Fail> {
-    let store = files(&rt, &[("image", &[0x6f, 0, 0, 0])], 64, &[])?;
+    let store = files(
+        &rt,
+        &[("image", &[0x6f, 0, 0, 0])],
+        sink(&rt, 64, &[])?,
+        &[],
+    )?;
     let words = ["flat", "--steps=10", "image", "--journal=journal"];
     let answer = serve(&rt, &words, store, sink(&rt, 64, &[])?)?;
     expect(&rt, &answer, 6, "", "tv: step limit 10\n");
