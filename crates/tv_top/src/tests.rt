@@ -204,78 +204,39 @@ fn words_that_are_no_command_line_are_refused(rt: HostRuntime) -> Result<(), Fai
 }
 
 #[test]
-fn faults_outside_have_their_statuses(rt: HostRuntime) -> Result<(), Fail> {
-    // Each by the image's name, the calls that fail of the store, of the output and of the journal's file, the room of
-    // that file, and whether a run began.
-    let rows: [(&str, [&[u64]; 3], usize, u8, &str, &str, bool); 8] = [
-        (
-            "image",
-            [&[0], &[], &[]],
-            64,
-            4,
-            "",
-            "tv: cannot read image\n",
-            false,
-        ),
-        (
-            "-",
-            [&[], &[], &[]],
-            64,
-            4,
-            "",
-            "tv: cannot read -\n",
-            false,
-        ),
-        (
-            "image",
-            [&[1], &[], &[]],
-            64,
-            5,
-            "",
-            "tv: cannot write\n",
-            false,
-        ),
-        (
-            "image",
-            [&[], &[0], &[]],
-            64,
-            5,
-            "",
-            "tv: cannot write\n",
-            true,
-        ),
-        (
-            "image",
-            [&[], &[], &[0]],
-            64,
-            5,
-            "A",
-            "tv: cannot write\n",
-            true,
-        ),
-        ("image", [&[], &[], &[1]], 64, 0, "A", "", true),
-        (
-            "image",
-            [&[], &[], &[]],
-            14,
-            5,
-            "A",
-            "tv: cannot write\n",
-            true,
-        ),
-        ("image", [&[], &[1], &[]], 15, 0, "A", "", true),
-    ];
-    for (name, [calls, puts, file_puts], room, status, out, line, began) in rows {
-        let store = files(
-            &rt,
-            &[("image", &HELLO)],
-            sink(&rt, room, file_puts)?,
-            calls,
-        )?;
+fn files_that_fail_begin_no_run(rt: HostRuntime) -> Result<(), Fail> {
+    // Each by the image's name, and the call of the store that fails.
+    for (name, call, status, line) in [
+        ("image", 0, 4, "tv: cannot read image\n"),
+        ("-", 9, 4, "tv: cannot read -\n"),
+        ("image", 1, 5, "tv: cannot write\n"),
+    ] {
+        let given: &[(&str, &[u8])] = &[("image", &HELLO)];
+        let store = files(&rt, given, sink(&rt, 64, &[])?, &[call])?;
         let words = ["flat", "--journal", "journal", name];
-        let answer = serve(&rt, &words, store, sink(&rt, 64, puts)?)?;
+        let answer = serve(&rt, &words, store, sink(&rt, 64, &[])?)?;
+        expect(&rt, &answer, status, "", line);
+        assert!(rt; answer.journal.is_none());
+    }
+    Ok(())
+}
+
+#[test]
+fn puts_that_fail_leave_the_run(rt: HostRuntime) -> Result<(), Fail> {
+    // Each by the put that fails of the output and of the journal's file, and the room of that file.
+    for (put, file_put, room, status, out, line) in [
+        (0, 9, 64, 5, "", "tv: cannot write\n"),
+        (1, 9, 15, 0, "A", ""),
+        (9, 0, 64, 5, "A", "tv: cannot write\n"),
+        (9, 1, 64, 0, "A", ""),
+        (9, 9, 14, 5, "A", "tv: cannot write\n"),
+    ] {
+        let given: &[(&str, &[u8])] = &[("image", &HELLO)];
+        let store = files(&rt, given, sink(&rt, room, &[file_put])?, &[])?;
+        let words = ["flat", "--journal", "journal", "image"];
+        let answer = serve(&rt, &words, store, sink(&rt, 64, &[put])?)?;
         expect(&rt, &answer, status, out, line);
-        assert_eq!(rt; answer.journal.is_some(), began);
+        assert!(rt; answer.journal.is_some());
     }
     Ok(())
 }
