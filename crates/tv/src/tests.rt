@@ -1,5 +1,7 @@
 //! Whole commands over real files, in the system's folder for temporary ones.
 
+mod images;
+
 use super::*;
 use std::process::Abort;
 use std::test::Fail;
@@ -106,5 +108,21 @@ fn a_journal_of_more_bytes_than_a_put_takes_is_whole(rt: HostRuntime) -> Result<
     bytes.extend_from_slice(&[1, 0, 48, 0, 0, 0])?;
     bytes.extend_from_slice(&[0, 0xa9, 0x03, 0, 0])?;
     assert_eq!(rt; saved.as_slice(), bytes.as_slice());
+    Ok(())
+}
+
+#[test]
+fn guests_print_what_their_texts_say(rt: HostRuntime) -> Result<(), Fail> {
+    for (name, image, text) in [
+        ("format", images::FORMAT, images::FORMAT_TEXT),
+        ("traps", images::TRAPS, images::TRAPS_TEXT),
+        ("atomics", images::ATOMICS, images::ATOMICS_TEXT),
+    ] {
+        let path = path(&rt, name, "image")?;
+        fs::write(&rt, &path, image)?;
+        let ran = serve(&rt, name, &["flat", &path])?;
+        fs::remove_file(&rt, &path)?;
+        expect(&rt, &ran, 0, text, "");
+    }
     Ok(())
 }

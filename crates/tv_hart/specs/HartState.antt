@@ -1,12 +1,14 @@
 -- A hart as contracts see it.
 use Rattle.std.specs.Prelude.{ℕ, ◌<◌, List, Option, Some, None}
 use Rattle.tv_hart.specs.declared.loads.Waiting.{Waiting}
+use Rattle.tv_trap.specs.CsrState.{CsrState}
 
--- its number, its 32 registers, the address of its next instruction, and the load that it waits for, if any
+-- its 32 registers, the address of its next instruction, its control and status registers, which have its number, and the
+-- load that it waits for, if any
 pub record HartState : Type 0 where
-  pub number : ℕ
   pub registers : List ℕ
   pub pc : ℕ
+  pub csrs : CsrState
   pub waits : Option Waiting
 
 -- the register that a load is for exists

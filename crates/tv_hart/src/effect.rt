@@ -1,12 +1,25 @@
 //! What an operation does to its hart and asks of the place.
 
 ghost use Rattle.std.specs.Prelude.{◌≡◌, ◌<◌, ◌^◌, slice_index};
-ghost use Rattle.tv_hart.specs.Effect.{effect_of, sum_64, FitsOperation, FitsEffect, register, immediate, branch_offset, upper_immediate, jump_offset};
+ghost use Rattle.tv_hart.specs.Effect.{
+  effect_of,
+  sum_64,
+  FitsOperation,
+  FitsEffect,
+  register,
+  immediate,
+  branch_offset,
+  upper_immediate,
+  jump_offset,
+  writes,
+  csr_value,
+};
 
+use crate::cause;
 use crate::loads::Extension;
-use crate::operation::Operation;
+use crate::operation::{CsrOp, Operation};
 use tv_base::Width;
-use tv_exec::{alu, alu_w, branch, sign_extended};
+use tv_exec::{AmoOp, alu, alu_w, branch, mul_div, mul_div_w, sign_extended};
 
 /// What an operation does. Its hart's pc goes on to the next instruction where nothing else is said.
 #[derive(Clone, Copy)]
@@ -21,10 +34,23 @@ pub enum Effect {
     Load(Width, Extension, u8, u64),
     /// A value is stored at an address: the address, the value.
     Store(Width, u64, u64),
+    /// A register gets what lies at an address, which is then reserved.
+    Reserve(Width, u8, u64),
+    /// A value is stored at an address where that is reserved, and a register gets whether: the register, the address, the
+    /// value.
+    Conditional(Width, u8, u64, u64),
+    /// A register gets what lies at an address, and the value of the operation is put there: the register, the address, the
+    /// operand.
+    Amo(AmoOp, Width, u8, u64, u64),
+    /// A register gets a control and status register, which an operand may change: the register, the number, the operand,
+    /// and whether it is written.
+    Csr(CsrOp, u8, u16, u64, bool),
+    /// A trap with this cause and no further value.
+    Trap(u64),
+    /// The return from a trap.
+    Return,
     /// Nothing.
     Pass,
-    /// What the hart doesn't carry out yet.
-    Unbuilt,
 }
 
 /// The value of a register. Register 0 holds 0.
@@ -82,6 +108,28 @@ fn address(registers: &[u64; 32], rs1: u8, imm: u32) -> u64
     ensures { result ≡ sum_64 (register registers.now rs1) (immediate imm) }
 {
     value_of(registers, rs1).wrapping_add(short_immediate(imm))
+}
+
+/// Whether an instruction writes its control and status register, by its field rs1 or the immediate in its place.
+#[inline(always)]
+fn is_written(op: CsrOp, field: u8) -> bool
+    ensures { result ≡ writes op field }
+{
+    match op {
+        CsrOp::Write => true,
+        CsrOp::Set | CsrOp::Clear => field != 0,
+    }
+}
+
+/// What a control and status register gets, by its old value and the operand.
+pub fn csr_value_of(op: CsrOp, old: u64, operand: u64) -> u64
+    ensures { result ≡ csr_value op old operand }
+{
+    match op {
+        CsrOp::Write => operand,
+        CsrOp::Set => old | operand,
+        CsrOp::Clear => old & !operand,
+    }
 }
 
 /// The effect of an operation, over the registers and the pc.
@@ -144,7 +192,45 @@ pub fn effect_of_operation(operation: Operation, registers: &[u64; 32], pc: u64)
                 alu_w(op, value_of(registers, rs1), value_of(registers, rs2)),
             )
         }
-        Operation::Fence => Effect::Pass,
-        Operation::Unbuilt => Effect::Unbuilt,
+        Operation::Product(op, rd, rs1, rs2) => {
+            Effect::Put(
+                rd,
+                mul_div(op, value_of(registers, rs1), value_of(registers, rs2)),
+            )
+        }
+        Operation::WordProduct(op, rd, rs1, rs2) => {
+            Effect::Put(
+                rd,
+                mul_div_w(op, value_of(registers, rs1), value_of(registers, rs2)),
+            )
+        }
+        Operation::Reserve(width, rd, rs1) => Effect::Reserve(width, rd, value_of(registers, rs1)),
+        Operation::Conditional(width, rd, rs1, rs2) => {
+            Effect::Conditional(
+                width,
+                rd,
+                value_of(registers, rs1),
+                value_of(registers, rs2),
+            )
+        }
+        Operation::Amo(op, width, rd, rs1, rs2) => {
+            Effect::Amo(
+                op,
+                width,
+                rd,
+                value_of(registers, rs1),
+                value_of(registers, rs2),
+            )
+        }
+        Operation::Csr(op, rd, rs1, csr) => {
+            Effect::Csr(op, rd, csr, value_of(registers, rs1), is_written(op, rs1))
+        }
+        Operation::CsrImmediate(op, rd, uimm, csr) => {
+            Effect::Csr(op, rd, csr, u64::from(uimm), is_written(op, uimm))
+        }
+        Operation::Call => Effect::Trap(cause::ENVIRONMENT_CALL),
+        Operation::Break => Effect::Trap(cause::BREAKPOINT),
+        Operation::Return => Effect::Return,
+        Operation::Nothing => Effect::Pass,
     }
 }

@@ -7,7 +7,7 @@ ghost use Rattle.tv_hart.specs.Effect.{FitsOperation};
 
 use crate::loads::Extension;
 use tv_base::Width;
-use tv_exec::{Alu, Branch};
+use tv_exec::{Alu, AmoOp, Branch, MulDiv};
 use tv_isa::Instr;
 
 /// An operation, over what its instruction has. Registers `rd`, `rs1` and `rs2` are numbers below 32; immediates, offsets
@@ -40,10 +40,39 @@ pub enum Operation {
     Registers(Alu, u8, u8, u8),
     /// `rd`, `rs1`, `rs2`, on the low words.
     WordRegisters(Alu, u8, u8, u8),
-    /// Nothing: a hart's accesses are made in order.
-    Fence,
-    /// A row that the hart doesn't carry out yet.
-    Unbuilt,
+    /// `rd`, `rs1`, `rs2`.
+    Product(MulDiv, u8, u8, u8),
+    /// `rd`, `rs1`, `rs2`, on the low words.
+    WordProduct(MulDiv, u8, u8, u8),
+    /// `rd`, `rs1`: `rd` gets what lies at `rs1`, which is then reserved.
+    Reserve(Width, u8, u8),
+    /// `rd`, `rs1`, `rs2`: `rs2` is stored at `rs1` where that is reserved; `rd` gets 0 if it is stored, else 1.
+    Conditional(Width, u8, u8, u8),
+    /// `rd`, `rs1`, `rs2`: `rd` gets what lies at `rs1`, and the value of the operation is put there.
+    Amo(AmoOp, Width, u8, u8, u8),
+    /// `rd`, `rs1`, number: `rd` gets a control and status register, which `rs1` changes.
+    Csr(CsrOp, u8, u8, u16),
+    /// `rd`, immediate, number: the same with an immediate.
+    CsrImmediate(CsrOp, u8, u8, u16),
+    /// A call of the environment.
+    Call,
+    /// A breakpoint.
+    Break,
+    /// The return from a trap.
+    Return,
+    /// Nothing: a hart's accesses are made in order, and it never sleeps.
+    Nothing,
+}
+
+/// What becomes of a control and status register.
+#[derive(Clone, Copy)]
+pub enum CsrOp {
+    /// It gets the operand.
+    Write,
+    /// It gets the operand's bits beside its own.
+    Set,
+    /// It loses the operand's bits.
+    Clear,
 }
 
 /// The operation of an instruction.
@@ -103,51 +132,87 @@ pub fn operation_of_instr(instr: Instr) -> Operation
         Instr::Sllw { rd, rs1, rs2 } => Operation::WordRegisters(Alu::Sll, rd, rs1, rs2),
         Instr::Srlw { rd, rs1, rs2 } => Operation::WordRegisters(Alu::Srl, rd, rs1, rs2),
         Instr::Sraw { rd, rs1, rs2 } => Operation::WordRegisters(Alu::Sra, rd, rs1, rs2),
-        Instr::Fence { word: _ } | Instr::FenceI { word: _ } => Operation::Fence,
-        Instr::Mul { .. } => Operation::Unbuilt,
-        Instr::Mulh { .. } => Operation::Unbuilt,
-        Instr::Mulhsu { .. } => Operation::Unbuilt,
-        Instr::Mulhu { .. } => Operation::Unbuilt,
-        Instr::Div { .. } => Operation::Unbuilt,
-        Instr::Divu { .. } => Operation::Unbuilt,
-        Instr::Rem { .. } => Operation::Unbuilt,
-        Instr::Remu { .. } => Operation::Unbuilt,
-        Instr::Mulw { .. } => Operation::Unbuilt,
-        Instr::Divw { .. } => Operation::Unbuilt,
-        Instr::Divuw { .. } => Operation::Unbuilt,
-        Instr::Remw { .. } => Operation::Unbuilt,
-        Instr::Remuw { .. } => Operation::Unbuilt,
-        Instr::LrW { .. } => Operation::Unbuilt,
-        Instr::ScW { .. } => Operation::Unbuilt,
-        Instr::AmoSwapW { .. } => Operation::Unbuilt,
-        Instr::AmoAddW { .. } => Operation::Unbuilt,
-        Instr::AmoXorW { .. } => Operation::Unbuilt,
-        Instr::AmoAndW { .. } => Operation::Unbuilt,
-        Instr::AmoOrW { .. } => Operation::Unbuilt,
-        Instr::AmoMinW { .. } => Operation::Unbuilt,
-        Instr::AmoMaxW { .. } => Operation::Unbuilt,
-        Instr::AmoMinuW { .. } => Operation::Unbuilt,
-        Instr::AmoMaxuW { .. } => Operation::Unbuilt,
-        Instr::LrD { .. } => Operation::Unbuilt,
-        Instr::ScD { .. } => Operation::Unbuilt,
-        Instr::AmoSwapD { .. } => Operation::Unbuilt,
-        Instr::AmoAddD { .. } => Operation::Unbuilt,
-        Instr::AmoXorD { .. } => Operation::Unbuilt,
-        Instr::AmoAndD { .. } => Operation::Unbuilt,
-        Instr::AmoOrD { .. } => Operation::Unbuilt,
-        Instr::AmoMinD { .. } => Operation::Unbuilt,
-        Instr::AmoMaxD { .. } => Operation::Unbuilt,
-        Instr::AmoMinuD { .. } => Operation::Unbuilt,
-        Instr::AmoMaxuD { .. } => Operation::Unbuilt,
-        Instr::Csrrw { .. } => Operation::Unbuilt,
-        Instr::Csrrs { .. } => Operation::Unbuilt,
-        Instr::Csrrc { .. } => Operation::Unbuilt,
-        Instr::Csrrwi { .. } => Operation::Unbuilt,
-        Instr::Csrrsi { .. } => Operation::Unbuilt,
-        Instr::Csrrci { .. } => Operation::Unbuilt,
-        Instr::Ecall => Operation::Unbuilt,
-        Instr::Ebreak => Operation::Unbuilt,
-        Instr::Mret => Operation::Unbuilt,
-        Instr::Wfi => Operation::Unbuilt,
+        Instr::Fence { word: _ } | Instr::FenceI { word: _ } => Operation::Nothing,
+        Instr::Mul { rd, rs1, rs2 } => Operation::Product(MulDiv::Mul, rd, rs1, rs2),
+        Instr::Mulh { rd, rs1, rs2 } => Operation::Product(MulDiv::Mulh, rd, rs1, rs2),
+        Instr::Mulhsu { rd, rs1, rs2 } => Operation::Product(MulDiv::Mulhsu, rd, rs1, rs2),
+        Instr::Mulhu { rd, rs1, rs2 } => Operation::Product(MulDiv::Mulhu, rd, rs1, rs2),
+        Instr::Div { rd, rs1, rs2 } => Operation::Product(MulDiv::Div, rd, rs1, rs2),
+        Instr::Divu { rd, rs1, rs2 } => Operation::Product(MulDiv::Divu, rd, rs1, rs2),
+        Instr::Rem { rd, rs1, rs2 } => Operation::Product(MulDiv::Rem, rd, rs1, rs2),
+        Instr::Remu { rd, rs1, rs2 } => Operation::Product(MulDiv::Remu, rd, rs1, rs2),
+        Instr::Mulw { rd, rs1, rs2 } => Operation::WordProduct(MulDiv::Mul, rd, rs1, rs2),
+        Instr::Divw { rd, rs1, rs2 } => Operation::WordProduct(MulDiv::Div, rd, rs1, rs2),
+        Instr::Divuw { rd, rs1, rs2 } => Operation::WordProduct(MulDiv::Divu, rd, rs1, rs2),
+        Instr::Remw { rd, rs1, rs2 } => Operation::WordProduct(MulDiv::Rem, rd, rs1, rs2),
+        Instr::Remuw { rd, rs1, rs2 } => Operation::WordProduct(MulDiv::Remu, rd, rs1, rs2),
+        Instr::LrW { rd, rs1, .. } => Operation::Reserve(Width::B4, rd, rs1),
+        Instr::ScW { rd, rs1, rs2, .. } => Operation::Conditional(Width::B4, rd, rs1, rs2),
+        Instr::AmoSwapW { rd, rs1, rs2, .. } => Operation::Amo(
+            AmoOp::Swap,
+            Width::B4,
+            rd,
+            rs1,
+            rs2,
+        ),
+        Instr::AmoAddW { rd, rs1, rs2, .. } => Operation::Amo(AmoOp::Add, Width::B4, rd, rs1, rs2),
+        Instr::AmoXorW { rd, rs1, rs2, .. } => Operation::Amo(AmoOp::Xor, Width::B4, rd, rs1, rs2),
+        Instr::AmoAndW { rd, rs1, rs2, .. } => Operation::Amo(AmoOp::And, Width::B4, rd, rs1, rs2),
+        Instr::AmoOrW { rd, rs1, rs2, .. } => Operation::Amo(AmoOp::Or, Width::B4, rd, rs1, rs2),
+        Instr::AmoMinW { rd, rs1, rs2, .. } => Operation::Amo(AmoOp::Min, Width::B4, rd, rs1, rs2),
+        Instr::AmoMaxW { rd, rs1, rs2, .. } => Operation::Amo(AmoOp::Max, Width::B4, rd, rs1, rs2),
+        Instr::AmoMinuW { rd, rs1, rs2, .. } => Operation::Amo(
+            AmoOp::Minu,
+            Width::B4,
+            rd,
+            rs1,
+            rs2,
+        ),
+        Instr::AmoMaxuW { rd, rs1, rs2, .. } => Operation::Amo(
+            AmoOp::Maxu,
+            Width::B4,
+            rd,
+            rs1,
+            rs2,
+        ),
+        Instr::LrD { rd, rs1, .. } => Operation::Reserve(Width::B8, rd, rs1),
+        Instr::ScD { rd, rs1, rs2, .. } => Operation::Conditional(Width::B8, rd, rs1, rs2),
+        Instr::AmoSwapD { rd, rs1, rs2, .. } => Operation::Amo(
+            AmoOp::Swap,
+            Width::B8,
+            rd,
+            rs1,
+            rs2,
+        ),
+        Instr::AmoAddD { rd, rs1, rs2, .. } => Operation::Amo(AmoOp::Add, Width::B8, rd, rs1, rs2),
+        Instr::AmoXorD { rd, rs1, rs2, .. } => Operation::Amo(AmoOp::Xor, Width::B8, rd, rs1, rs2),
+        Instr::AmoAndD { rd, rs1, rs2, .. } => Operation::Amo(AmoOp::And, Width::B8, rd, rs1, rs2),
+        Instr::AmoOrD { rd, rs1, rs2, .. } => Operation::Amo(AmoOp::Or, Width::B8, rd, rs1, rs2),
+        Instr::AmoMinD { rd, rs1, rs2, .. } => Operation::Amo(AmoOp::Min, Width::B8, rd, rs1, rs2),
+        Instr::AmoMaxD { rd, rs1, rs2, .. } => Operation::Amo(AmoOp::Max, Width::B8, rd, rs1, rs2),
+        Instr::AmoMinuD { rd, rs1, rs2, .. } => Operation::Amo(
+            AmoOp::Minu,
+            Width::B8,
+            rd,
+            rs1,
+            rs2,
+        ),
+        Instr::AmoMaxuD { rd, rs1, rs2, .. } => Operation::Amo(
+            AmoOp::Maxu,
+            Width::B8,
+            rd,
+            rs1,
+            rs2,
+        ),
+        Instr::Csrrw { rd, rs1, csr } => Operation::Csr(CsrOp::Write, rd, rs1, csr),
+        Instr::Csrrs { rd, rs1, csr } => Operation::Csr(CsrOp::Set, rd, rs1, csr),
+        Instr::Csrrc { rd, rs1, csr } => Operation::Csr(CsrOp::Clear, rd, rs1, csr),
+        Instr::Csrrwi { rd, uimm, csr } => Operation::CsrImmediate(CsrOp::Write, rd, uimm, csr),
+        Instr::Csrrsi { rd, uimm, csr } => Operation::CsrImmediate(CsrOp::Set, rd, uimm, csr),
+        Instr::Csrrci { rd, uimm, csr } => Operation::CsrImmediate(CsrOp::Clear, rd, uimm, csr),
+        Instr::Ecall => Operation::Call,
+        Instr::Ebreak => Operation::Break,
+        Instr::Mret => Operation::Return,
+        Instr::Wfi => Operation::Nothing,
     }
 }

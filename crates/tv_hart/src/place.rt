@@ -1,8 +1,9 @@
 //! What a hart reaches: the memory and the registers behind its addresses.
 
-ghost use Rattle.std.specs.Prelude.{◌≡◌};
+ghost use Rattle.std.specs.Prelude.{◌≡◌, ◌%◌};
 
 use tv_base::{HartNo, Width};
+use tv_isa::AmoOp;
 
 /// What a load found.
 #[derive(Clone, Copy)]
@@ -28,9 +29,11 @@ pub enum Stored {
     Nothing,
 }
 
-/// The addresses that a hart reaches. A load or store is aligned to its width.
+/// The addresses that a hart reaches. Each access is aligned to its width.
 pub trait Place {
     ghost use Rattle.tv_hart.specs.Place.{Meaning, OnNoLoad, OnNoStore};
+    ghost use Rattle.tv_base.specs.Width.{width_bytes};
+    ghost use Rattle.tv_exec.specs.Atomic.{IsAmoWidth};
 
     // What each call gives and leaves, as functions of the place.
     ghost meaning: { Meaning Self };
@@ -43,11 +46,31 @@ pub trait Place {
 
     /// Loads for a hart.
     fn load(&mut self, hart: HartNo, width: Width, addr: u64) -> Loaded
+        requires aligned { addr % width_bytes width ≡ 0 }
         ensures meaning { (result, self.new) ≡ meaning.load self.old hart width addr }
         ensures unchanged { OnNoLoad result (self.new ≡ self.old) };
 
     /// Stores the low `width` bytes of a value for a hart.
     fn store(&mut self, hart: HartNo, width: Width, addr: u64, value: u64) -> Stored
+        requires aligned { addr % width_bytes width ≡ 0 }
         ensures meaning { (result, self.new) ≡ meaning.store self.old hart width addr value }
         ensures unchanged { OnNoStore result (self.new ≡ self.old) };
+
+    /// Puts the value of an operation in the place of the number in memory, for a hart, and gives the old number.
+    fn amo(&mut self, hart: HartNo, width: Width, addr: u64, op: AmoOp, value: u64) -> Option<u64>
+        requires aligned { addr % width_bytes width ≡ 0 }
+        requires width { IsAmoWidth width }
+        ensures meaning { (result, self.new) ≡ meaning.amo self.old hart width addr op value };
+
+    /// Loads for a hart, and reserves the aligned 8 bytes that hold the address.
+    fn reserve(&mut self, hart: HartNo, width: Width, addr: u64) -> Option<u64>
+        requires aligned { addr % width_bytes width ≡ 0 }
+        requires width { IsAmoWidth width }
+        ensures meaning { (result, self.new) ≡ meaning.reserve self.old hart width addr };
+
+    /// Stores for a hart where its reservation stands and holds the address, and tells whether. The reservation ends.
+    fn conditional(&mut self, hart: HartNo, width: Width, addr: u64, value: u64) -> Option<bool>
+        requires aligned { addr % width_bytes width ≡ 0 }
+        requires width { IsAmoWidth width }
+        ensures meaning { (result, self.new) ≡ meaning.conditional self.old hart width addr value };
 }

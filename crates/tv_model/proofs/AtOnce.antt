@@ -8,9 +8,9 @@ use Rattle.tv_hart.specs.Hart.{Outcome, stepped}
 use Rattle.tv_hart.specs.HartState.{HartState}
 use Rattle.tv_hart.proofs.Steps.{IsOver, IsAnswered, IsSettled, AnswersAtOnce, over_step}
 use Rattle.tv_spec.specs.Local.{local_meaning, load_from, store_to, target_at}
-use Rattle.tv_spec.specs.LocalState.{LocalState}
+use Rattle.tv_spec.specs.Reach.{Reach}
 
-load_answered : (p : LocalState) (addr n : ℕ) (place : Option (Target × ℕ)) → IsAnswered (load_from p addr n place).0
+load_answered : (p : Reach) (addr n : ℕ) (place : Option (Target × ℕ)) → IsAnswered (load_from p addr n place).0
 load_answered p addr n None = tt
 load_answered p addr n (Some (target.Ram, off)) = tt
 load_answered p addr n (Some (target.Finisher, off)) = tt
@@ -19,23 +19,23 @@ load_answered p addr n (Some (target.Intc, off)) = tt
 load_answered p addr n (Some (target.Debug, off)) = tt
 load_answered p addr n (Some (target.Device device, off)) = tt
 
-store_settled : (p : LocalState) (width : Width) (addr value : ℕ) (place : Option (Target × ℕ)) → IsSettled (store_to p width addr value place).0
-store_settled p width addr value None = tt
-store_settled p width addr value (Some (target.Ram, off)) = tt
-store_settled p width addr value (Some (target.Finisher, off)) = tt
-store_settled p width addr value (Some (target.Timer, off)) = tt
-store_settled p width addr value (Some (target.Intc, off)) = tt
-store_settled p width addr value (Some (target.Debug, off)) = tt
-store_settled p width addr value (Some (target.Device device, off)) = tt
+store_settled : (p : Reach) (hart : ℕ) (width : Width) (addr value : ℕ) (place : Option (Target × ℕ)) → IsSettled (store_to p hart width addr value place).0
+store_settled p hart width addr value None = tt
+store_settled p hart width addr value (Some (target.Ram, off)) = tt
+store_settled p hart width addr value (Some (target.Finisher, off)) = tt
+store_settled p hart width addr value (Some (target.Timer, off)) = tt
+store_settled p hart width addr value (Some (target.Intc, off)) = tt
+store_settled p hart width addr value (Some (target.Debug, off)) = tt
+store_settled p hart width addr value (Some (target.Device device, off)) = tt
 
-at_once : (p : LocalState) → AnswersAtOnce local_meaning p
+at_once : (p : Reach) → AnswersAtOnce local_meaning p
 at_once p = record {
   loads = λ hart width addr. load_answered p addr (width_bytes width) (target_at p addr (width_bytes width));
-  stores = λ hart width addr value. store_settled p width addr value (target_at p addr (width_bytes width));
+  stores = λ hart width addr value. store_settled p hart width addr value (target_at p addr (width_bytes width));
 }
 
 -- so an event over them is over when its step is
-pub local_over : (hart : HartState) (p : LocalState) (outcome : Outcome LocalState) → outcome ≡ stepped local_meaning hart p → IsOver outcome.0
-local_over hart p outcome is =
-    let Over : Outcome LocalState → Type 0 = λ outcome. IsOver outcome.0 in
-    subst Over (sym is) (over_step local_meaning hart p (at_once p))
+pub local_over : (hart : HartState) (p : Reach) (lines : ℕ) (outcome : Outcome Reach) → outcome ≡ stepped local_meaning hart p lines → IsOver outcome.0
+local_over hart p lines outcome is =
+    let Over : Outcome Reach → Type 0 = λ outcome. IsOver outcome.0 in
+    subst Over (sym is) (over_step local_meaning hart p lines (at_once p))

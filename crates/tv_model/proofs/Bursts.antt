@@ -1,11 +1,9 @@
 -- A burst of events of a hart, event by event.
 use Rattle.std.proofs.Common.{◌≡◌, ◌≢◌, ℕ, zero, suc, ◌+◌, ◌-◌, ◌<◌, ◌≤◌, min, List, [], ◌∷◌, ◌++◌, None, Bool, false, true, eqb, refl, ap, sym, ◌∙◌, subst, append-nil, arith, length, length-append, length-set, get_or, set, inl, inr}
 use Rattle.std.proofs.lemmas.Bool.Decides.{eqb_tells}
-use Rattle.std.proofs.lemmas.Bool.{false≢true}
-use Rattle.std.proofs.lemmas.Grind.{replicate_next, get_or-set_at}
+use Rattle.std.proofs.lemmas.Grind.{replicate_next}
 use Rattle.std.proofs.lemmas.List.{get_or_default}
 use Rattle.tv_hart.specs.declared.Did.{Did}
-use Rattle.tv_hart.specs.declared.Did.TheVariants as did
 use Rattle.tv_base.specs.declared.Why.TheVariants as why
 use Rattle.tv_hart.specs.Hart.{Outcome, stepped, first_hart}
 use Rattle.tv_hart.specs.HartState.{HartState}
@@ -19,9 +17,10 @@ use Rattle.tv_spec.specs.declared.Shown.{Shown}
 use Rattle.tv_spec.specs.declared.Shown.TheVariants as shown
 use Rattle.tv_spec.specs.Legal.{after}
 use Rattle.tv_spec.specs.Local.{local_meaning}
-use Rattle.tv_spec.specs.LocalState.{LocalState}
+use Rattle.tv_spec.specs.Reach.{Reach}
 use Rattle.tv_spec.specs.Setup.{Setup}
 use Rattle.tv_spec.specs.Shows.{byte_shown, debug_bytes, bytes_of}
+use Rattle.tv_spec.specs.LocalState.{LocalState}
 use Rattle.tv_spec.specs.State.{State}
 use Rattle.tv_spec.specs.Step.{Move, made, Can, done, event_of, end_at, end_shown, mode_by}
 use Rattle.tv_spec.specs.Update.{update}
@@ -66,58 +65,57 @@ is-equal a b same = elim (eqb_tells a b) [
 ]
 
 -- no event
-pub burst-none : (setup : Setup) (s : State) (hart : ℕ) (here : HartState) (ram : List ℕ) (most : ℕ) → Stands setup s hart here ram most → IsBurst setup s hart 0 here ram shown.Nothing
-burst-none setup s hart here ram most at =
+pub burst-none : (setup : Setup) (s : State) (hart : ℕ) (here : HartState) (local : LocalState) (most : ℕ) → Stands setup s hart here local most → IsBurst setup s hart 0 here local shown.Nothing
+burst-none setup s hart here local most at =
     let below : eqb (s.events + 0) setup.steps ≡ false = not-equal (s.events + 0) setup.steps (λ same. omega (arith, at.limit)) in
     let mode_is : s.mode ≡ mode_by (end_at (eqb (s.events + 0) setup.steps) None) = rw below at.running in
     let events_are : s.events ≡ s.events + 0 = omega arith in
     record {
       legal = tt;
-      state = same_state _ _ (update-same s.harts hart here at.hart_is) at.ram_is refl mode_is events_are refl;
+      state = same_state _ _ (update-same s.harts hart here at.hart_is) at.local_is refl mode_is events_are refl;
       bytes = refl;
       last = λ n is. absurd (omega (arith, is));
     }
 
 -- an event more, after events that showed nothing
-pub burst-more : (setup : Setup) (s : State) (hart : ℕ) (first here later : HartState) (ram now : List ℕ) (most count : ℕ) (place : LocalState) (seen : Shown)
-    → Stands setup s hart first ram most → IsBurst setup s hart count here now shown.Nothing → count < most → here.waits ≡ None
-    → ◌≡◌ {A = Outcome LocalState} (did.Retired, later, place) (stepped local_meaning here (record { ram = now; shown = shown.Nothing })) → seen ≡ place.shown
-    → IsBurst setup s hart (count + 1) later place.ram seen
-burst-more setup s hart first here later ram now most count place seen at burst few ready event seen_is =
+pub burst-more : (setup : Setup) (s : State) (hart : ℕ) (first here later : HartState) (local now : LocalState) (most count : ℕ) (result : Did) (place : Reach) (seen : Shown)
+    → Stands setup s hart first local most → IsBurst setup s hart count here now shown.Nothing → count < most → here.waits ≡ None
+    → ◌≡◌ {A = Outcome Reach} (result, later, place) (stepped local_meaning here (record { local = now; shown = shown.Nothing }) 0) → seen ≡ place.shown
+    → IsBurst setup s hart (count + 1) later place.local seen
+burst-more setup s hart first here later local now most count result place seen at burst few ready event seen_is =
     let e : Move = made (entry.Hart hart) in
     let front : State = after setup s (events_of hart count) in
     let mid : State = burst_state setup s hart count here now shown.Nothing in
     let below : eqb (s.events + count) setup.steps ≡ false = not-equal (s.events + count) setup.steps (λ same. omega (arith, at.within)) in
     let running : mid.mode ≡ mode.Running = rw below refl in
     let here_is : mid.harts hart ≡ here = update-at s.harts hart here in
-    let is : event_of mid hart ≡ (did.Retired, later, place) =
-    ap (λ (h : HartState). stepped local_meaning h (record { ram = now; shown = shown.Nothing })) here_is ∙ sym event in
+    let is : event_of mid hart ≡ (result, later, place) =
+    ap (λ (h : HartState). stepped local_meaning h (record { local = now; shown = shown.Nothing }) 0) here_is ∙ sym event in
     let can_mid : Can setup mid e = record {
       exists = at.exists;
       running = running;
       ready = ap (λ (h : HartState). h.waits) here_is ∙ ready;
-      carried = ap (λ (o : Outcome LocalState). o.0) is;
     } in
     let can : Can setup front e = subst (λ (t : State). Can setup t e) (sym burst.state) can_mid in
     let list : events_of hart (count + 1) ≡ events_of hart count ++ e ∷ [] = replicate_next count e in
     let sum : s.events + count + 1 ≡ s.events + (count + 1) = omega arith in
     let some : eqb (count + 1) 0 ≡ false = not-equal (count + 1) 0 (λ same. omega arith) in
-    let ticked_is : false ≡ (burst_state setup s hart (count + 1) later place.ram seen).ticked = rw some refl in
-    let mode_is : (done setup mid e).mode ≡ (burst_state setup s hart (count + 1) later place.ram seen).mode =
-    ap (λ (o : Outcome LocalState). mode_by (end_at (eqb (s.events + count + 1) setup.steps) (end_shown o.2.shown))) is
+    let ticked_is : false ≡ (burst_state setup s hart (count + 1) later place.local seen).ticked = rw some refl in
+    let mode_is : (done setup mid e).mode ≡ (burst_state setup s hart (count + 1) later place.local seen).mode =
+    ap (λ (o : Outcome Reach). mode_by (end_at (eqb (s.events + count + 1) setup.steps) (end_shown o.2.shown))) is
     ∙ ap (λ (x : Shown). mode_by (end_at (eqb (s.events + count + 1) setup.steps) (end_shown x))) (sym seen_is)
     ∙ ap (λ (n : ℕ). mode_by (end_at (eqb n setup.steps) (end_shown seen))) sum in
     let harts_are : (done setup mid e).harts ≡ update s.harts hart later =
-    ap (λ (o : Outcome LocalState). update mid.harts hart o.1) is ∙ update-twice s.harts hart here later in
+    ap (λ (o : Outcome Reach). update mid.harts hart o.1) is ∙ update-twice s.harts hart here later in
     let last_is : (event_of front hart).2.shown ≡ seen =
-    ap (λ (t : State). (event_of t hart).2.shown) burst.state ∙ ap (λ (o : Outcome LocalState). o.2.shown) is ∙ sym seen_is in
+    ap (λ (t : State). (event_of t hart).2.shown) burst.state ∙ ap (λ (o : Outcome Reach). o.2.shown) is ∙ sym seen_is in
     record {
       legal = rw list (legal-append setup s (events_of hart count) (e ∷ []) burst.legal (can, tt));
       state =
           ap (after setup s) list
           ∙ after-append setup s (events_of hart count) (e ∷ [])
           ∙ ap (λ (t : State). done setup t e) burst.state
-          ∙ same_state _ _ harts_are (ap (λ (o : Outcome LocalState). o.2.ram) is) refl mode_is sum ticked_is;
+          ∙ same_state _ _ harts_are (ap (λ (o : Outcome Reach). o.2.local) is) refl mode_is sum ticked_is;
       bytes =
           ap (debug_bytes setup s) list
           ∙ debug-append setup s (events_of hart count) (e ∷ [])
@@ -130,71 +128,53 @@ burst-more setup s hart first here later ram now most count place seen at burst 
     }
 
 -- so many events were made, and none of them showed anything
-pub record IsAlong (first here : HartState) (local now : LocalState) (most count : ℕ) : Type 0 where
-  pub burst : (setup : Setup) (s : State) (hart : ℕ) → Stands setup s hart first local.ram most → IsBurst setup s hart count here now.ram shown.Nothing
+pub record IsAlong (first here : HartState) (reach now : Reach) (most count : ℕ) : Type 0 where
+  pub burst : (setup : Setup) (s : State) (hart : ℕ) → Stands setup s hart first reach.local most → IsBurst setup s hart count here now.local shown.Nothing
   pub ready : here.waits ≡ None
   pub quiet : now.shown ≡ shown.Nothing
-  pub same : count ≡ 0 → (here ≡ first) × (now ≡ local)
+  pub same : count ≡ 0 → (here ≡ first) × (now ≡ reach)
 
-pub along-start : (first : HartState) (local : LocalState) (most : ℕ) → first.waits ≡ None → local.shown ≡ shown.Nothing → IsAlong first first local local most 0
-along-start first local most ready quiet = record {
-  burst = λ setup s hart at. burst-none setup s hart first local.ram most at;
+pub along-start : (first : HartState) (reach : Reach) (most : ℕ) → first.waits ≡ None → reach.shown ≡ shown.Nothing → IsAlong first first reach reach most 0
+along-start first reach most ready quiet = record {
+  burst = λ setup s hart at. burst-none setup s hart first reach.local most at;
   ready = ready;
   quiet = quiet;
   same = λ none. (refl, refl);
 }
 
 -- an event more, as the code comes to it
-pub along-more : (first here later : HartState) (local now place quiet : LocalState) (most count : ℕ) (result : Did) (seen : Shown) → IsAlong first here local now most count → count < most
-    → ◌≡◌ {A = Outcome LocalState} (result, later, place) (stepped local_meaning here now) → result ≡ did.Retired → seen ≡ place.shown → quiet ≡ record place { shown = shown.Nothing }
-    → (setup : Setup) (s : State) (hart : ℕ) → Stands setup s hart first local.ram most → IsBurst setup s hart (count + 1) later quiet.ram seen
-along-more first here later local now place quiet most count result seen along few event retired seen_is quiet_is setup s hart at =
-    let now_is : now ≡ record { ram = now.ram; shown = shown.Nothing } = λ i. record { ram = now.ram; shown = along.quiet i } in
-    let event_is : ◌≡◌ {A = Outcome LocalState} (did.Retired, later, place) (stepped local_meaning here (record { ram = now.ram; shown = shown.Nothing })) =
-    ap (λ (d : Did). (let o : Outcome LocalState = (d, later, place) in o)) (sym retired) ∙ event ∙ ap (λ (l : LocalState). stepped local_meaning here l) now_is in
-    subst (λ (ram : List ℕ). IsBurst setup s hart (count + 1) later ram seen) (sym (ap (λ (l : LocalState). l.ram) quiet_is))
-    (burst-more setup s hart first here later local.ram now.ram most count place seen at (along.burst setup s hart at) few along.ready event_is seen_is)
-
-abbrev carried-out : Did → Bool
-carried-out did.Retired = true
-carried-out _ = false
-
-unbuilt-not-retired : did.Unbuilt ≢ did.Retired
-unbuilt-not-retired is = absurd (false≢true (ap carried-out is))
-
--- the hart that was put back makes the event that it would make
-event-after : (harts : List HartState) (local : LocalState) (time : ℕ) (now : Mode) (events : ℕ) (ticked : Bool) (steps n : ℕ) (later : HartState) → n < length harts → local.shown ≡ shown.Nothing
-    → event_of (state_of (seen-guest (set harts n later) local.ram time now events ticked steps)) n ≡ stepped local_meaning later local
-event-after harts local time now events ticked steps n later within quiet =
-    let hart_is : get_or (set harts n later) n (first_hart n) ≡ later = get_or-set_at harts n n later (first_hart n) refl within in
-    let local_is : record { ram = local.ram; shown = shown.Nothing } ≡ local = λ i. record { ram = local.ram; shown = sym quiet i } in
-    ap (λ (h : HartState). stepped local_meaning h (record { ram = local.ram; shown = shown.Nothing })) hart_is ∙ ap (λ (l : LocalState). stepped local_meaning later l) local_is
+pub along-more : (first here later : HartState) (reach now place quiet : Reach) (most count : ℕ) (result : Did) (seen : Shown) → IsAlong first here reach now most count → count < most
+    → ◌≡◌ {A = Outcome Reach} (result, later, place) (stepped local_meaning here now 0) → seen ≡ place.shown → quiet ≡ record place { shown = shown.Nothing }
+    → (setup : Setup) (s : State) (hart : ℕ) → Stands setup s hart first reach.local most → IsBurst setup s hart (count + 1) later quiet.local seen
+along-more first here later reach now place quiet most count result seen along few event seen_is quiet_is setup s hart at =
+    let now_is : now ≡ record { local = now.local; shown = shown.Nothing } = λ i. record { local = now.local; shown = along.quiet i } in
+    let event_is : ◌≡◌ {A = Outcome Reach} (result, later, place) (stepped local_meaning here (record { local = now.local; shown = shown.Nothing }) 0) =
+    event ∙ ap (λ (l : Reach). stepped local_meaning here l 0) now_is in
+    subst (λ (local : LocalState). IsBurst setup s hart (count + 1) later local seen) (sym (ap (λ (l : Reach). l.local) quiet_is))
+    (burst-more setup s hart first here later reach.local now.local most count result place seen at (along.burst setup s hart at) few along.ready event_is seen_is)
 
 -- a burst of some events, as the code comes to it
-pub burst-made : (harts : List HartState) (local place : LocalState) (time : ℕ) (now next : Mode) (events : ℕ) (ticked : Bool) (steps n number most limit count : ℕ) (hart later : HartState) (seen : Shown)
+pub burst-made : (harts : List HartState) (reach place : Reach) (time : ℕ) (now next : Mode) (events : ℕ) (ticked : Bool) (steps n number most limit count : ℕ) (hart later : HartState) (seen : Shown)
     → now ≡ mode.Running → events < steps → number < length harts → number ≡ n → hart ≡ get_or harts number hart
     → limit ≡ min most (steps - events)
-    → ((setup : Setup) (s : State) (k : ℕ) → Stands setup s k hart local.ram limit → IsBurst setup s k count later place.ram seen)
-    → place.shown ≡ shown.Nothing → count ≤ limit → (count < limit → seen ≡ shown.Nothing → (stepped local_meaning later place).0 ≡ did.Unbuilt) → count ≢ 0
+    → ((setup : Setup) (s : State) (k : ℕ) → Stands setup s k hart reach.local limit → IsBurst setup s k count later place.local seen)
+    → place.shown ≡ shown.Nothing → count ≤ limit → (seen ≡ shown.Nothing → count ≡ limit) → count ≢ 0
     → next ≡ mode_by (end_at (eqb (events + count) steps) (end_shown seen))
-    → IsBurstOf (seen-guest harts local.ram time now events ticked steps) (seen-guest (set harts number later) place.ram time next (events + count) false steps) n most count seen
-burst-made harts local place time now next events ticked steps n number most limit count hart later seen running below within number_is at limit_is burst quiet few stops some next_is =
-    let old = seen-guest harts local.ram time now events ticked steps in
-    let new = seen-guest (set harts number later) place.ram time next (events + count) false steps in
+    → IsBurstOf (seen-guest harts reach.local time now events ticked steps) (seen-guest (set harts number later) place.local time next (events + count) false steps) n most count seen
+burst-made harts reach place time now next events ticked steps n number most limit count hart later seen running below within number_is at limit_is burst quiet few stops some next_is =
+    let old = seen-guest harts reach.local time now events ticked steps in
+    let new = seen-guest (set harts number later) place.local time next (events + count) false steps in
     let here : n < length harts = omega (arith, within, number_is) in
     let at_n : hart ≡ get_or harts n hart = at ∙ ap (λ (k : ℕ). get_or harts k hart) number_is in
-    let made_is : IsBurst old.setup (state_of old) n count later place.ram seen = burst old.setup (state_of old) n (record {
+    let made_is : IsBurst old.setup (state_of old) n count later place.local seen = burst old.setup (state_of old) n (record {
       exists = here;
       running = running;
       hart_is = get_or_default harts n (first_hart n) hart here ∙ sym at_n;
-      ram_is = refl;
+      local_is = refl;
       limit = below;
       within = omega (arith, below, limit_is);
     }) in
-    let ticked_is : false ≡ (burst_state old.setup (state_of old) n count later place.ram seen).ticked = rw (not-equal count 0 some) refl in
-    let event_is : event_of (state_of new) n ≡ stepped local_meaning later place =
-    ap (λ (k : ℕ). event_of (state_of (seen-guest (set harts k later) place.ram time next (events + count) false steps)) n) number_is
-    ∙ event-after harts place time next (events + count) false steps n later here quiet in
+    let ticked_is : false ≡ (burst_state old.setup (state_of old) n count later place.local seen).ticked = rw (not-equal count 0 some) refl in
     record {
       moves = record {
         legal = made_is.legal;
@@ -208,18 +188,13 @@ burst-made harts local place time now next events ticked steps n number most lim
       bytes = made_is.bytes;
       last = made_is.last;
       few = omega (arith, few, limit_is);
-      stops = λ short nothing can. elim (eqb_tells count limit) [
-        | inl same ↦ (
-            let all : events + count ≡ steps = omega (arith, below, limit_is, same.1, short) in
-            let tells : eqb (events + count) steps ≡ true = is-equal (events + count) steps all in
-            let ended : next ≡ mode.Ending why.Steps = next_is ∙ ap (λ (x : Shown). mode_by (end_at (eqb (events + count) steps) (end_shown x))) nothing ∙ rw tells refl in
-            ending-is-not-running why.Steps (sym ended ∙ can.running))
-        | inr other ↦ (
-            let unbuilt = stops (omega (arith, few, other.1)) nothing in
-            unbuilt-not-retired (sym unbuilt ∙ sym (ap (λ (o : Outcome LocalState). o.0) event_is) ∙ can.carried))
-      ];
+      stops = λ short nothing can.
+          let all : events + count ≡ steps = omega (arith, below, limit_is, stops nothing, short) in
+          let tells : eqb (events + count) steps ≡ true = is-equal (events + count) steps all in
+          let ended : next ≡ mode.Ending why.Steps = next_is ∙ ap (λ (x : Shown). mode_by (end_at (eqb (events + count) steps) (end_shown x))) nothing ∙ rw tells refl in
+          ending-is-not-running why.Steps (sym ended ∙ can.running);
       same = λ none. absurd (some none);
-      unbuilt = λ none. absurd (some none);
+      some = λ exists runs more. omega (arith, some);
     }
 
 -- the mode after a burst is the one after its last event

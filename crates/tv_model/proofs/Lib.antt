@@ -4,3 +4,4 @@ pub mod First
 pub mod States
 pub mod Stepping
 pub mod Played
+pub mod Quiet

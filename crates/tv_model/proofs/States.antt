@@ -9,14 +9,15 @@ use Rattle.tv_hart.specs.Hart.{first_hart}
 use Rattle.tv_hart.specs.HartState.{HartState}
 use Rattle.tv_spec.specs.declared.Mode.{Mode}
 use Rattle.tv_spec.specs.declared.Mode.TheVariants as mode
+use Rattle.tv_spec.specs.LocalState.{LocalState}
 use Rattle.tv_spec.specs.State.{State}
 use Rattle.tv_spec.specs.Update.{update}
 use Rattle.tv_model.specs.GuestState.{GuestState}
 
 -- states with equal parts are one
-pub same_state : (a b : State) → a.harts ≡ b.harts → a.ram ≡ b.ram → a.time ≡ b.time → a.mode ≡ b.mode → a.events ≡ b.events → a.ticked ≡ b.ticked → a ≡ b
-same_state a b harts ram time mode_is events ticked =
-    λ i. record { harts = harts i; ram = ram i; time = time i; mode = mode_is i; events = events i; ticked = ticked i }
+pub same_state : (a b : State) → a.harts ≡ b.harts → a.local ≡ b.local → a.time ≡ b.time → a.mode ≡ b.mode → a.events ≡ b.events → a.ticked ≡ b.ticked → a ≡ b
+same_state a b harts local time mode_is events ticked =
+    λ i. record { harts = harts i; local = local i; time = time i; mode = mode_is i; events = events i; ticked = ticked i }
 
 -- functions that agree everywhere are one
 pub same_function : {A : Type 0} → (f g : ℕ → A) → ((k : ℕ) → f k ≡ g k) → f ≡ g
@@ -31,14 +32,14 @@ hart_put harts n hart within = same_function _ _ (λ (k : ℕ). elim (eqb_tells 
 ])
 
 -- the guest's machine as contracts see it
-abbrev pub seen : List HartState → List ℕ → ℕ → Mode → ℕ → Bool → ℕ → GuestState
-seen harts ram time now events ticked steps =
-    record { setup = record { harts = length harts; steps = steps }; harts = harts; ram = ram; time = time; mode = now; events = events; ticked = ticked }
+abbrev pub seen : List HartState → LocalState → ℕ → Mode → ℕ → Bool → ℕ → GuestState
+seen harts local time now events ticked steps =
+    record { setup = record { harts = length harts; steps = steps }; harts = harts; local = local; time = time; mode = now; events = events; ticked = ticked }
 
 -- whether a run goes on
 abbrev pub runs : Mode → Bool
-runs mode.Running = true
 runs (mode.Ending cause) = false
+runs _ = true
 
 pub ending-is-not-running : (cause : Why) → mode.Ending cause ≡ mode.Running → ⊥
 ending-is-not-running cause is = absurd (false≢true (ap runs is))

@@ -1,7 +1,6 @@
 -- A guest's machine, and the monitor's state that it is.
 use Rattle.std.specs.Prelude.{◌≡◌, ℕ, ◌<◌, ◌≤◌, List, length, None, Bool, true, false}
 use Rattle.std.specs.List.{slice_index_or, AllByRecursion}
-use Rattle.tv_hart.specs.declared.Did.TheVariants as did
 use Rattle.tv_hart.specs.Hart.{first_hart}
 use Rattle.tv_hart.specs.HartState.{HartState}
 use Rattle.tv_spec.specs.declared.Mode.{Mode}
@@ -12,7 +11,7 @@ use Rattle.tv_machine_file.specs.declared.machine.Machine.{Machine}
 use Rattle.tv_spec.specs.Legal.{IsLegal, after}
 use Rattle.tv_spec.specs.Setup.{setup_of}
 use Rattle.tv_spec.specs.State.{State, first_state}
-use Rattle.tv_spec.specs.Step.{Move, Can, done, event_of}
+use Rattle.tv_spec.specs.Step.{Move, Can, done}
 use Rattle.tv_model.specs.GuestState.{GuestState}
 
 -- a hart that waits for no load
@@ -23,7 +22,7 @@ IsReady hart = hart.waits ≡ None
 abbrev pub state_of : GuestState → State
 state_of guest = record {
   harts = λ hart. slice_index_or guest.harts hart (first_hart hart);
-  ram = guest.ram;
+  local = guest.local;
   time = guest.time;
   mode = guest.mode;
   events = guest.events;
@@ -58,11 +57,6 @@ pub record IsGuest (harts : List HartState) (seen : Shown) (now : Mode) (events 
   pub ready : AllByRecursion IsReady harts
   pub quiet : seen ≡ shown.Nothing
   pub within : now ≡ mode.Running → events < steps
-
--- where a hart of the machine makes no event in a run that goes on, its next instruction is not built
-abbrev pub IsUnbuilt : GuestState → ℕ → Type 0
-IsUnbuilt guest hart =
-    hart < guest.setup.harts → guest.mode ≡ mode.Running → (event_of (state_of guest) hart).0 ≡ did.Unbuilt
 
 -- as the run of a machine with an image begins
 pub record IsFirst (guest : GuestState) (machine : Machine) (image : List ℕ) : Type 0 where

@@ -49,7 +49,7 @@ abbrev pub EndsSo : MonitorState → MonitorState → Why → Bool → Type 0
 EndsSo old new cause true = IsStep old new (ended cause)
 EndsSo old new cause false = IsNoStep old new (ended cause)
 
--- the exit status; none where the run goes on
+-- the exit status; none where the run has not ended
 abbrev pub status_of : Mode → Option ℕ
-status_of mode.Running = None
 status_of (mode.Ending cause) = Some (exit_status cause)
+status_of _ = None

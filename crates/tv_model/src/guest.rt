@@ -39,7 +39,7 @@ impl Model for Guest {
 
     ghost use Rattle.tv_model.specs.Guest.{IsGuest};
 
-    ghost view = { λ g. record { setup = record { harts = length g.harts.items; steps = g.steps }; harts = g.harts.items; ram = g.local.ram; time = g.time; mode = g.mode; events = g.events; ticked = g.ticked } };
+    ghost view = { λ g. record { setup = record { harts = length g.harts.items; steps = g.steps }; harts = g.harts.items; local = g.local.local; time = g.time; mode = g.mode; events = g.events; ticked = g.ticked } };
 
     ghost invariant = { λ g. IsGuest g.harts.items g.local.shown g.mode g.events g.steps };
 }
@@ -85,17 +85,6 @@ impl Guest {
         ensures few { result ≤ 8 }
     {
         self.harts.len() as u8
-    }
-
-    /// The address of a hart's next instruction; 0 for a hart that the machine lacks.
-    pub fn pc(&self, hart: HartNo) -> u64
-        ensures value { hart < self.now.setup.harts → result ≡ ((state_of self.now).harts hart).pc }
-        ensures missing { self.now.setup.harts ≤ hart → result ≡ 0 }
-    {
-        match self.harts.get(usize::from(hart.get())) {
-            Some(hart) => hart.pc(),
-            None => 0,
-        }
     }
 
     /// A burst: up to so many events of a hart, and what the last one showed outside memory. It is shorter than asked for

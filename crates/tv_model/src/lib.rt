@@ -6,6 +6,7 @@ mod guest;
 mod local;
 mod monitor;
 mod replays;
+mod reservations;
 
 pub use guest::Guest;
 pub use monitor::{Monitor, StepFault, exit_status};

@@ -1,6 +1,8 @@
 -- A burst of the engine is so many events of the schedule.
 use Rattle.std.proofs.Common.{◌≡◌, ◌≢◌, ℕ, zero, suc, ◌+◌, ◌-◌, ◌<◌, ◌≤◌, leb, Bool, true, false, List, [], ◌∷◌, ◌++◌, length, replicate, Option, Some, None, refl, ap, sym, ◌∙◌, subst, append_assoc, append-nil, length-append, arith}
 use Rattle.std.proofs.lemmas.List.{length-replicate}
+use Rattle.tv_hart.proofs.Steps.{IsOver}
+use Rattle.tv_hart.specs.declared.Did.{Did}
 use Rattle.tv_hart.specs.declared.Did.TheVariants as did
 use Rattle.tv_journal.specs.declared.Entry.TheVariants as entry
 use Rattle.tv_journal.specs.Entries.{record_count}
@@ -9,16 +11,19 @@ use Rattle.tv_journal.proofs.Records.{run-count}
 use Rattle.tv_model.specs.Burst.{events_of, IsBurstOf}
 use Rattle.tv_model.specs.Guest.{state_of}
 use Rattle.tv_model.specs.GuestState.{GuestState}
+use Rattle.tv_model.proofs.AtOnce.{local_over}
 use Rattle.tv_spec.specs.declared.Mode.{Mode}
 use Rattle.tv_spec.specs.declared.Mode.TheVariants as mode
 use Rattle.tv_spec.specs.declared.Shown.{Shown}
+use Rattle.tv_spec.specs.declared.Shown.TheVariants as shown
 use Rattle.tv_spec.specs.declared.Stop.{Stop}
 use Rattle.tv_spec.specs.declared.Stop.TheVariants as stop
 use Rattle.tv_spec.specs.Legal.{IsLegal, after}
+use Rattle.tv_spec.specs.LocalState.{lines_of}
 use Rattle.tv_spec.specs.Setup.{Setup}
 use Rattle.tv_spec.specs.Shows.{byte_shown, bytes_of, debug_bytes}
 use Rattle.tv_spec.specs.SoFar.{IsSoFar}
-use Rattle.tv_spec.specs.Solo.{Solo, Going, onward, has_room as room_for, makes, going, stopped_by, solo_event, turn}
+use Rattle.tv_spec.specs.Solo.{Solo, Going, onward, has_room as room_for, makes, going, stopped_by, event_by, solo_event, turn}
 use Rattle.tv_spec.specs.State.{State}
 use Rattle.tv_spec.specs.Step.{made, done, event_of}
 use Rattle.tv_spec.proofs.SoFar.{so_far-more}
@@ -53,20 +58,40 @@ room-again room hart setup solo is =
     ap record_count (append_assoc solo.entries (entry.Hart hart ∷ []) (entry.Hart hart ∷ [])) ∙ run-count solo.entries hart 1 in
     ap (λ (n : ℕ). leb n room) same ∙ is
 
+-- an event that doesn't stall, by the room for it
+event-room : (setup : Setup) (room hart : ℕ) (solo : Solo) (did : Did) → IsOver did → room_for room solo (entry.Hart hart) ≡ true
+    → ◌≡◌ {A = Going} (event_by setup room hart solo did) (going (makes setup solo (entry.Hart hart)))
+event-room setup room hart solo did.Retired over is = rw is refl
+event-room setup room hart solo (did.Trapped cause) over is = rw is refl
+event-room setup room hart solo did.Held over is = absurd over
+event-room setup room hart solo did.Full over is = absurd over
+
+event-full : (setup : Setup) (room hart : ℕ) (solo : Solo) (did : Did) → IsOver did → room_for room solo (entry.Hart hart) ≡ false
+    → ◌≡◌ {A = Going} (event_by setup room hart solo did) (solo, Some stop.Full)
+event-full setup room hart solo did.Retired over is = rw is refl
+event-full setup room hart solo (did.Trapped cause) over is = rw is refl
+event-full setup room hart solo did.Held over is = absurd over
+event-full setup room hart solo did.Full over is = absurd over
+
+-- no event stalls: memory and ports answer at once
+never-stalls : (s : State) (hart : ℕ) → IsOver (event_of s hart).0
+never-stalls s hart = local_over (s.harts hart) (record { local = s.local; shown = shown.Nothing }) (lines_of s.local hart) (event_of s hart) refl
+
 -- events that may stand and find room are those of a turn
 pub turn-events : (setup : Setup) (room hart n : ℕ) (solo : Solo) → IsLegal setup solo.state (events_of hart (suc n)) → room_for room solo (entry.Hart hart) ≡ true
     → ◌≡◌ {A = Going} (turn setup room hart (suc n) solo) (going (with_events setup solo hart (suc n)))
 unfolding turn
 turn-events setup room hart zero solo legal is =
-    let carried : (event_of solo.state hart).0 ≡ did.Retired = legal.0.carried in
-    let one : solo_event setup room hart solo ≡ going (makes setup solo (entry.Hart hart)) = rw (is, carried) refl in
+    let one : solo_event setup room hart solo ≡ going (makes setup solo (entry.Hart hart)) =
+    event-room setup room hart solo (event_of solo.state hart).0 (never-stalls solo.state hart) is in
     onward-round (solo_event setup room hart solo) ∙ one
     ∙ ap going (sym (events-none setup (makes setup solo (entry.Hart hart)) hart) ∙ events-more setup solo hart 0)
 turn-events setup room hart (suc n) solo legal is =
     let next : Solo = makes setup solo (entry.Hart hart) in
-    let carried : (event_of solo.state hart).0 ≡ did.Retired = legal.0.carried in
     let running : next.state.mode ≡ mode.Running = legal.1.0.running in
-    let one : solo_event setup room hart solo ≡ (next, None) = rw (is, carried) (ap (λ (m : Mode). let g : Going = (next, stopped_by m) in g) running) in
+    let one : solo_event setup room hart solo ≡ (next, None) =
+    event-room setup room hart solo (event_of solo.state hart).0 (never-stalls solo.state hart) is
+    ∙ ap (λ (m : Mode). let g : Going = (next, stopped_by m) in g) running in
     ap (onward (turn setup room hart (suc n))) one ∙ turn-events setup room hart n next legal.1 (room-again room hart setup solo is)
     ∙ ap going (events-more setup solo hart (suc n))
 
@@ -115,7 +140,8 @@ pub burst-full : (hart left : ℕ) (old : Held) → 0 < left → old.guest.mode 
 burst-full hart left old some running none =
     part-all old.guest.setup old.journal.record_room hart 1 left old old stop.Full some (record {
       made = λ before.
-          let full : solo_event old.guest.setup old.journal.record_room hart (solo_at old before) ≡ (solo_at old before, Some stop.Full) = rw none refl in
+          let full : solo_event old.guest.setup old.journal.record_room hart (solo_at old before) ≡ (solo_at old before, Some stop.Full) =
+          event-full old.guest.setup old.journal.record_room hart (solo_at old before) (event_of (state_of old.guest) hart).0 (never-stalls (state_of old.guest) hart) none in
           sym (turn-one old.guest.setup old.journal.record_room hart (solo_at old before) ∙ full);
       so_far = λ first before so_far. so_far;
       setup = refl;
@@ -123,27 +149,6 @@ burst-full hart left old some running none =
       outer = refl;
       mode_is = running;
     })
-
--- a burst of which no event may be made
-pub burst-unbuilt : (hart left pc : ℕ) (old : Held) (later : GuestState) → 0 < left → old.guest.mode ≡ mode.Running → has_room old.journal (entry.Hart hart) ≡ true
-    → later ≡ old.guest → (event_of (state_of old.guest) hart).0 ≡ did.Unbuilt → pc ≡ ((state_of later).harts hart).pc
-    → IsPart (turn old.guest.setup old.journal.record_room hart left) old (record old { guest = later }) (Some (stop.Unbuilt pc))
-burst-unbuilt hart left pc old later some running room same unbuilt pc_is =
-    let new : Held = record old { guest = later } in
-    let new_is : old ≡ new = λ i. record old { guest = sym same i } in
-    let pc_same : ((state_of old.guest).harts hart).pc ≡ pc = ap (λ (g : GuestState). ((state_of g).harts hart).pc) (sym same) ∙ sym pc_is in
-    subst (λ (h : Held). IsPart (turn old.guest.setup old.journal.record_room hart left) old h (Some (stop.Unbuilt pc))) new_is
-    (part-all old.guest.setup old.journal.record_room hart 1 left old old (stop.Unbuilt pc) some (record {
-      made = λ before.
-          let none : solo_event old.guest.setup old.journal.record_room hart (solo_at old before) ≡ (solo_at old before, Some (stop.Unbuilt pc)) =
-          rw (room, unbuilt) (ap (λ (n : ℕ). let g : Going = (solo_at old before, Some (stop.Unbuilt n)) in g) pc_same) in
-          sym (turn-one old.guest.setup old.journal.record_room hart (solo_at old before) ∙ none);
-      so_far = λ first before so_far. so_far;
-      setup = refl;
-      room = refl;
-      outer = refl;
-      mode_is = running;
-    }))
 
 -- a burst of some events
 pub burst-part : (old : Held) (later : GuestState) (kept : JournalState) (shown_bytes : List ℕ) (hart most n : ℕ) (seen : Shown) (result : Option Stop)

@@ -58,7 +58,7 @@ pub legal-end : (machine : Machine) (image : List ℕ) (solo : Solo) (cause : Wh
     → IsLegalRun machine image solo.entries (Some (length solo.entries, cause))
 legal-end machine image solo cause so_far runs outer =
     let moves : List Move = map made solo.entries in
-    let end : CanEnd (after (setup_of machine) (first_state machine image) moves) cause = record { running = rw (sym so_far.state_is) runs; outer = outer } in
+    let end : CanEnd (after (setup_of machine) (first_state machine image) moves) cause = record { is_open = rw (sym so_far.state_is, runs) tt; outer = outer } in
     record {
       place = omega arith;
       legal = rw (take-length solo.entries, drop-length solo.entries) (legal-append (setup_of machine) (first_state machine image) moves (ended cause ∷ []) so_far.legal (end, tt));
@@ -69,7 +69,6 @@ pub legal-run : (machine : Machine) (image : List ℕ) (solo : Solo) (stopped : 
 legal-run machine image solo None so_far mode_is = legal-end machine image solo why.DebugLost so_far mode_is (λ is. false≢true (sym (ap is_some is)))
 legal-run machine image solo (Some stop.Full) so_far mode_is = legal-end machine image solo why.Full so_far mode_is (λ is. false≢true (sym (ap is_some is)))
 legal-run machine image solo (Some (stop.Ended cause)) so_far mode_is = record { place = tt; legal = so_far.legal }
-legal-run machine image solo (Some (stop.Unbuilt pc)) so_far mode_is = record { place = tt; legal = so_far.legal }
 
 -- an outer end after all entries is the cause
 pub cause-of-outer : (machine : Machine) (image : List ℕ) (solo : Solo) (cause : Why) → IsSoFar (setup_of machine) (first_state machine image) solo → solo.state.mode ≡ mode.Running
@@ -83,11 +82,10 @@ cause-of-outer machine image solo cause so_far runs =
 
 pub run-cause : (machine : Machine) (image : List ℕ) (solo : Solo) (stopped : Option Stop) → IsSoFar (setup_of machine) (first_state machine image) solo
     → StopsIn stopped solo.state.mode
-    → cause_of_end (setup_of machine) (first_state machine image) (with_outer solo.entries (outer_by solo.entries stopped)) ≡ cause_by stopped
+    → cause_of_end (setup_of machine) (first_state machine image) (with_outer solo.entries (outer_by solo.entries stopped)) ≡ Some (cause_by stopped)
 run-cause machine image solo None so_far mode_is = cause-of-outer machine image solo why.DebugLost so_far mode_is
 run-cause machine image solo (Some stop.Full) so_far mode_is = cause-of-outer machine image solo why.Full so_far mode_is
 run-cause machine image solo (Some (stop.Ended cause)) so_far mode_is = sym so_far.cause_is ∙ ap cause_in mode_is
-run-cause machine image solo (Some (stop.Unbuilt pc)) so_far mode_is = sym so_far.cause_is ∙ ap cause_in mode_is
 
 pub run-of : (machine : Machine) (image : List ℕ) (guest later : GuestState) (journal kept closed : JournalState) (stopped : Option Stop) (lost : Bool) (told now : ToldSink)
     → IsFirst guest machine image → journal.entries ≡ [] → journal.record_room ≡ machine.journal_entries

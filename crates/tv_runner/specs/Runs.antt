@@ -45,12 +45,11 @@ abbrev pub outer_by : List Entry → Option Stop → Option (ℕ × Why)
 outer_by entries None = Some (length entries, why.DebugLost)
 outer_by entries (Some stopped) = outer_of_stop entries stopped
 
--- the cause for which a run ended; one that stopped since an instruction is not built is open
-abbrev pub cause_by : Option Stop → Option Why
-cause_by None = Some why.DebugLost
-cause_by (Some (stop.Ended cause)) = Some cause
-cause_by (Some stop.Full) = Some why.Full
-cause_by (Some (stop.Unbuilt pc)) = None
+-- the cause for which a run ended
+abbrev pub cause_by : Option Stop → Why
+cause_by None = why.DebugLost
+cause_by (Some (stop.Ended cause)) = cause
+cause_by (Some stop.Full) = why.Full
 
 -- a run of a machine with an image: so many rounds of the schedule, which are all of it where it stopped; and where it did
 -- not stop, bytes went lost
@@ -66,5 +65,5 @@ pub record IsRun (machine : Machine) (image : List ℕ) (ran : Ran) (old new : T
   pub outer : ran.journal.outer ≡ outer_by solo.entries ran.stop
   pub legal : IsLegalRun machine image ran.journal.entries ran.journal.outer
   pub bytes : solo.bytes ≡ debug_bytes (setup_of machine) (first_state machine image) (map made solo.entries)
-  pub cause : cause_of_end (setup_of machine) (first_state machine image) (with_outer ran.journal.entries ran.journal.outer) ≡ cause_by ran.stop
+  pub cause : cause_of_end (setup_of machine) (first_state machine image) (with_outer ran.journal.entries ran.journal.outer) ≡ Some (cause_by ran.stop)
   pub put : IsPut ran.lost middle.bytes solo.bytes old new

@@ -41,9 +41,6 @@ fn burst(
         return Err(Stop::Full);
     }
     let made = guest.burst(hart, left);
-    if made.0 == 0 {
-        return Err(Stop::Unbuilt(guest.pc(hart)));
-    }
     keep_events(journal, hart, made.0);
     show(bytes, made.1);
     match guest.mode() {

@@ -53,8 +53,8 @@ fn rounds<O: Sink>(guest: &mut Guest, journal: &mut Journal, out: &mut O) -> (Op
 /// Runs a machine with an image of up to `ram` bytes on one thread, in rounds: up to 64 events of each hart in the order
 /// of their numbers, then a tick of 64. After each round the bytes that it showed at the debug port are put.
 ///
-/// The run stops where an event ends it, which comes after at most `steps` events, where an entry finds no room in the
-/// journal, and before an instruction that isn't built yet. A round whose bytes could not be put is its last.
+/// The run stops where an event ends it, which comes after at most `steps` events, or where an entry finds no room in the
+/// journal. A round whose bytes could not be put is its last.
 ///
 /// # Errors
 /// Want of memory. Nothing was put then.
@@ -89,6 +89,6 @@ fn close(journal: &mut Journal, stop: Option<Stop>)
     match stop {
         None => journal.end(Why::DebugLost),
         Some(Stop::Full) => journal.end(Why::Full),
-        Some(Stop::Ended(_) | Stop::Unbuilt(_)) => {}
+        Some(Stop::Ended(_)) => {}
     }
 }

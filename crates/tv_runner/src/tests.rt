@@ -10,6 +10,7 @@ use std::test::Fail;
 use tv_base::{Memory, Why};
 use tv_fake::MemorySink;
 use tv_machine_file::Machine;
+use tv_model::{Replayed, replay};
 use tv_spec::Stop;
 
 /// The image that puts `A` and switches the machine off.
@@ -19,6 +20,30 @@ const HELLO: [u32; 7] = [
 
 /// The image that puts `A` and then jumps to itself.
 const PUT_AND_LOOP: [u32; 4] = [0x100002b7, 0x04100313, 0x00628023, 0x0000006f];
+
+/// Each of two harts adds 1 four times by AMOADD; hart 0 waits for 8, puts it as a digit and switches the machine off.
+const ADDING: [u32; 18] = [
+    0x00000297, 0x20028e13, 0x00400313, 0x00100393, 0x007e202f, 0xfff30313, 0xfe031ce3, 0x00051063,
+    0x00800493, 0x000e2403, 0xfe941ee3, 0x03040413, 0x100005b7, 0x00858023, 0x001005b7, 0x00005637,
+    0x55560613, 0x00c5a023,
+];
+
+/// Each of two harts adds 1 under a lock by LR and SC, which it holds for longer than a turn: it loads, counts down from
+/// 50, and stores. Hart 0 waits for both, puts the sum as a digit and switches the machine off.
+const LOCKING: [u32; 28] = [
+    0x00000297, 0x20028e13, 0x00100393, 0x100e242f, 0xfe041ee3, 0x187e242f, 0xfe041ae3, 0x008e2483,
+    0x03200313, 0xfff30313, 0xfe031ee3, 0x00148493, 0x009e2423, 0x080e202f, 0x010e0693, 0x0076a02f,
+    0x00051063, 0x00200313, 0x010e2403, 0xfe641ee3, 0x008e2403, 0x03040413, 0x100005b7, 0x00858023,
+    0x001005b7, 0x00005637, 0x55560613, 0x00c5a023,
+];
+
+/// Hart 0 reserves 8 bytes and counts down from 40, past its turn, in which hart 1 stores a byte there; it stores where it
+/// still may, and puts whether not as a digit. It does so again at once, and switches the machine off.
+const RESERVING: [u32; 22] = [
+    0x00000297, 0x20028e13, 0x04051463, 0x00500393, 0x100005b7, 0x100e342f, 0x02800313, 0xfff30313,
+    0xfe031ee3, 0x187e342f, 0x03040413, 0x00858023, 0x100e342f, 0x187e342f, 0x03040413, 0x00858023,
+    0x001005b7, 0x00005637, 0x55560613, 0x00c5a023, 0x00ae03a3, 0x0000006f,
+];
 
 /// The journal file of two harts with 200 events: a turn of 64 for each, a tick of 64, a turn of 64, and 8 events.
 const TWO_HARTS: [u8; 38] = [
@@ -62,6 +87,15 @@ fn machine(alloc: Global, harts: u8, steps: u32, records: u32) -> Result<Machine
     Ok(machine)
 }
 
+/// The bytes of an image by its words.
+fn image(rt: &impl AllocGlobal, words: &[u32]) -> Result<Vec<u8>, Fail> {
+    let mut image = Vec::new(rt.alloc());
+    for word in words {
+        image.extend_from_slice(&word.to_le_bytes())?;
+    }
+    Ok(image)
+}
+
 /// A run of an image, and its output.
 fn run(
     rt: &(impl AllocGlobal + Abort),
@@ -71,10 +105,7 @@ fn run(
     assert!(rt; given.harts >= 1 && given.harts <= 8);
     assert!(rt; given.steps >= 1 && given.steps <= 1000);
     assert!(rt; given.room >= 1 && given.room <= 1000);
-    let mut image = Vec::new(rt.alloc());
-    for word in words {
-        image.extend_from_slice(&word.to_le_bytes())?;
-    }
+    let image = image(rt, words)?;
     assert!(rt; image.len() <= 1_048_576);
     let machine = machine(rt.alloc(), given.harts, given.steps, given.room)?;
     let mut failing = Vec::new(rt.alloc());
@@ -97,33 +128,32 @@ fn why_text(why: Why) -> &'static str {
     }
 }
 
-/// A stop in a word, and the pc that it tells, or 0.
-fn stop_text(stop: Option<Stop>) -> (&'static str, u64) {
+/// A stop in a word.
+fn stop_text(stop: Option<Stop>) -> &'static str {
     match stop {
-        None => ("none", 0),
-        Some(Stop::Ended(why)) => (why_text(why), 0),
-        Some(Stop::Full) => ("full", 0),
-        Some(Stop::Unbuilt(pc)) => ("unbuilt", pc),
+        None => "none",
+        Some(Stop::Ended(why)) => why_text(why),
+        Some(Stop::Full) => "full",
     }
 }
 
 #[test]
 fn runs_stop_as_their_words_say(rt: HostRuntime) -> Result<(), Fail> {
-    // Each by its image, with why it stopped and the pc told, its output, and the number of its entries.
-    let rows: [(&[u32], Given, &str, u64, &str, u64); 9] = [
-        (&HELLO, steps(1000), "off", 0, "A", 7),
-        (&HELLO, steps(6), "steps", 0, "A", 6),
-        (&[0x0000006f], steps(10), "steps", 0, "", 10),
-        (&[0x0000006f], steps(100), "steps", 0, "", 101),
-        (&PUT_AND_LOOP, steps(100), "steps", 0, "A", 101),
-        (&[0x00000073], steps(1000), "unbuilt", 0x80000000, "", 0),
+    // Each by its image, with why it stopped, its output, and the number of its entries.
+    let rows: [(&[u32], Given, &str, &str, u64); 9] = [
+        (&HELLO, steps(1000), "off", "A", 7),
+        (&HELLO, steps(6), "steps", "A", 6),
+        (&[0x0000006f], steps(10), "steps", "", 10),
+        (&[0x0000006f], steps(100), "steps", "", 101),
+        (&PUT_AND_LOOP, steps(100), "steps", "A", 101),
+        // Words that trap, and then trap on at address 0.
+        (&[0x00000073], steps(65), "steps", "", 66),
         (
             &[0x100002b7, 0x04100313, 0x00628023, 0x00000000],
-            steps(1000),
-            "unbuilt",
-            0x8000000c,
+            steps(64),
+            "steps",
             "A",
-            3,
+            64,
         ),
         (
             &HELLO,
@@ -132,7 +162,6 @@ fn runs_stop_as_their_words_say(rt: HostRuntime) -> Result<(), Fail> {
                 ..steps(7)
             },
             "off",
-            0,
             "A",
             7,
         ),
@@ -143,17 +172,37 @@ fn runs_stop_as_their_words_say(rt: HostRuntime) -> Result<(), Fail> {
                 ..steps(1000)
             },
             "off",
-            0,
             "A",
             7,
         ),
     ];
-    for (words, given, stop, pc, text, entries) in rows {
+    for (words, given, stop, text, entries) in rows {
         let (ran, out) = run(&rt, words, given)?;
-        assert_eq!(rt; stop_text(ran.stop), (stop, pc));
+        assert_eq!(rt; stop_text(ran.stop), stop);
         assert_eq!(rt; out.as_slice(), text.as_bytes());
         assert_eq!(rt; ran.journal.events(), entries);
         assert!(rt; ran.journal.outer().is_none() && !ran.lost);
+    }
+    Ok(())
+}
+
+#[test]
+fn harts_share_memory(rt: HostRuntime) -> Result<(), Fail> {
+    // Each by its image, with what it puts.
+    let rows: [(&[u32], &str); 3] = [(&ADDING, "8"), (&LOCKING, "2"), (&RESERVING, "10")];
+    for (words, text) in rows {
+        let given = Given {
+            harts: 2,
+            ..steps(1000)
+        };
+        let (ran, out) = run(&rt, words, given)?;
+        assert_eq!(rt; stop_text(ran.stop), "off");
+        assert_eq!(rt; out.as_slice(), text.as_bytes());
+        let image = image(&rt, words)?;
+        let machine = machine(rt.alloc(), 2, 1000, 1000)?;
+        assert!(rt; image.len() <= 1_048_576);
+        let replayed = replay(rt.alloc(), &machine, &image, &ran.journal)?;
+        assert_eq!(rt; replayed, Replayed::Legal(Some(0)));
     }
     Ok(())
 }
@@ -228,12 +277,11 @@ fn runs_cut_short_say_why(rt: HostRuntime) -> Result<(), Fail> {
     ];
     for (words, given, stop, entries, outer, lost) in rows {
         let (ran, out) = run(&rt, words, given)?;
-        let (stopped, _) = stop_text(ran.stop);
         let end = match ran.journal.outer() {
             Some((before, why)) => (before, why_text(why)),
             None => (0, "none"),
         };
-        assert_eq!(rt; stopped, stop);
+        assert_eq!(rt; stop_text(ran.stop), stop);
         assert_eq!(rt; ran.journal.events(), entries);
         assert_eq!(rt; end, outer);
         assert!(rt; ran.lost == lost && out.as_slice().is_empty());

@@ -1,6 +1,8 @@
 pub mod Legal
 pub mod Local
 pub mod LocalState
+pub mod Reach
+pub mod Reservations
 pub mod Setup
 pub mod SoFar
 pub mod Solo

@@ -1,5 +1,5 @@
 -- What a hart reaches: guest memory, the debug port and the finisher.
-use Rattle.std.specs.Prelude.{ℕ, ◌%◌, ◌^◌, List, [], ◌∷◌, length, Option, Some, None}
+use Rattle.std.specs.Prelude.{ℕ, ◌%◌, ◌^◌, Bool, true, false, if◌then◌else◌, List, [], ◌∷◌, length, Option, Some, None}
 use Rattle.tv_base.specs.declared.Width.{Width}
 use Rattle.tv_base.specs.declared.Width.TheVariants.{B4}
 use Rattle.tv_base.specs.Width.{width_bytes}
@@ -14,9 +14,13 @@ use Rattle.tv_hart.specs.declared.place.Stored.TheVariants as stored
 use Rattle.tv_hart.specs.Place.{Meaning}
 use Rattle.tv_intc.specs.declared.ending.Finish.{Finish}
 use Rattle.tv_intc.specs.Finisher.{finish_of}
-use Rattle.tv_ram.specs.Memory.{loaded as word_in, number_at, with_number}
+use Rattle.tv_ram.specs.Memory.{loaded as number_in, number_at}
 use Rattle.tv_spec.specs.declared.Shown.TheVariants as shown
-use Rattle.tv_spec.specs.LocalState.{LocalState}
+use Rattle.tv_spec.specs.LocalState.{LocalState, with_reservation, written_by}
+use Rattle.tv_spec.specs.Reach.{Reach}
+use Rattle.tv_spec.specs.Reservations.{granule, is_reserved, reserved_by}
+use Rattle.tv_isa.specs.declared.AmoOp.{AmoOp}
+use Rattle.tv_exec.specs.Atomic.{amo_of}
 
 -- the ranges of addresses of a machine with so many bytes of memory: memory, and the ports
 abbrev pub port_ranges : List Range
@@ -29,37 +33,68 @@ abbrev pub local_ranges : ℕ → List Range
 local_ranges ram = record { base = 0x8000_0000; len = ram; target = target.Ram } ∷ port_ranges
 
 -- where the n bytes from an address on lie, with their offset there
-abbrev pub target_at : LocalState → ℕ → ℕ → Option (Target × ℕ)
-target_at p addr n = range_at (local_ranges (length p.ram)) addr n
+abbrev pub target_at : Reach → ℕ → ℕ → Option (Target × ℕ)
+target_at p addr n = range_at (local_ranges (length p.local.ram)) addr n
 
 -- what a store to the finisher asks for; only one of 4 bytes asks for something
 abbrev pub finish_by : Width → ℕ → Option Finish
 finish_by B4 value = finish_of (value % 2 ^ 32)
 finish_by _ value = None
 
-abbrev pub after_finish : LocalState → Option Finish → LocalState
+abbrev pub after_finish : Reach → Option Finish → Reach
 after_finish p None = p
 after_finish p (Some finish) = record p { shown = shown.Finish finish }
 
--- a load of n bytes: memory gives the number there, a port gives 0
-abbrev pub load_from : LocalState → ℕ → ℕ → Option (Target × ℕ) → Loaded × LocalState
+-- a load of n bytes: memory gives the number there, a port gives 0; the other targets are not on the bus yet
+abbrev pub load_from : Reach → ℕ → ℕ → Option (Target × ℕ) → Loaded × Reach
 load_from p addr n None = (loaded.Nothing, p)
-load_from p addr n (Some (target.Ram, off)) = (loaded.Value (number_at p.ram addr n), p)
-load_from p addr n (Some (_, off)) = (loaded.Value 0, p)
+load_from p addr n (Some (target.Ram, off)) = (loaded.Value (number_at p.local.ram addr n), p)
+load_from p addr n (Some (target.Finisher, off)) = (loaded.Value 0, p)
+load_from p addr n (Some (target.Debug, off)) = (loaded.Value 0, p)
+load_from p addr n (Some (target.Timer, off)) = (loaded.Nothing, p)
+load_from p addr n (Some (target.Intc, off)) = (loaded.Nothing, p)
+load_from p addr n (Some (target.Device device, off)) = (loaded.Nothing, p)
 
 -- a store: memory has the bytes, the debug port shows its byte, the finisher may end the run
-abbrev pub store_to : LocalState → Width → ℕ → ℕ → Option (Target × ℕ) → Stored × LocalState
-store_to p width addr value None = (stored.Nothing, p)
-store_to p width addr value (Some (target.Ram, off)) =
-    (stored.Done, record p { ram = with_number p.ram addr (width_bytes width) value })
-store_to p width addr value (Some (target.Debug, off)) = (stored.Done, record p { shown = shown.Byte (value % 2 ^ 8) })
-store_to p width addr value (Some (target.Finisher, off)) = (stored.Done, after_finish p (finish_by width value))
-store_to p width addr value (Some (_, off)) = (stored.Done, p)
+abbrev pub store_to : Reach → ℕ → Width → ℕ → ℕ → Option (Target × ℕ) → Stored × Reach
+store_to p hart width addr value None = (stored.Nothing, p)
+store_to p hart width addr value (Some (target.Ram, off)) =
+    (stored.Done, record p { local = written_by p.local hart addr (width_bytes width) value })
+store_to p hart width addr value (Some (target.Finisher, off)) = (stored.Done, after_finish p (finish_by width value))
+store_to p hart width addr value (Some (target.Debug, off)) = (stored.Done, record p { shown = shown.Byte (value % 2 ^ 8) })
+store_to p hart width addr value (Some (target.Timer, off)) = (stored.Nothing, p)
+store_to p hart width addr value (Some (target.Intc, off)) = (stored.Nothing, p)
+store_to p hart width addr value (Some (target.Device device, off)) = (stored.Nothing, p)
+
+-- AMO, LR and SC of a hart, by the number in memory; they reach memory alone
+abbrev pub after_amo : Reach → ℕ → Width → ℕ → AmoOp → ℕ → Option ℕ → Option ℕ × Reach
+after_amo p hart width addr op value None = (None, p)
+after_amo p hart width addr op value (Some old) =
+    (Some old, record p { local = written_by p.local hart addr (width_bytes width) (amo_of op width old value) })
+
+abbrev pub after_reserve : Reach → ℕ → ℕ → Option ℕ → Option ℕ × Reach
+after_reserve p hart addr None = (None, p)
+after_reserve p hart addr (Some value) =
+    (Some value, record p { local = with_reservation p.local hart (Some (granule addr)) })
+
+-- SC: the hart's reservation ends, whether or not the value was stored
+abbrev pub after_conditional : Reach → ℕ → Width → ℕ → ℕ → Option ℕ → Option Bool × Reach
+after_conditional p hart width addr value None = (None, p)
+after_conditional p hart width addr value (Some old) =
+    let ended : LocalState = with_reservation p.local hart None in
+    if is_reserved (reserved_by p.local.reservations hart) addr then
+    (Some true, record p { local = written_by ended hart addr (width_bytes width) value })
+    else (Some false, record p { local = ended })
 
 -- memory and ports as the place of harts
-abbrev pub local_meaning : Meaning LocalState
+abbrev pub local_meaning : Meaning Reach
 local_meaning = record {
-  fetch = λ p addr. word_in p.ram addr 4;
+  fetch = λ p addr. number_in p.local.ram addr 4;
   load = λ p hart width addr. load_from p addr (width_bytes width) (target_at p addr (width_bytes width));
-  store = λ p hart width addr value. store_to p width addr value (target_at p addr (width_bytes width));
+  store = λ p hart width addr value. store_to p hart width addr value (target_at p addr (width_bytes width));
+  amo = λ p hart width addr op value.
+      after_amo p hart width addr op value (number_in p.local.ram addr (width_bytes width));
+  reserve = λ p hart width addr. after_reserve p hart addr (number_in p.local.ram addr (width_bytes width));
+  conditional = λ p hart width addr value.
+      after_conditional p hart width addr value (number_in p.local.ram addr (width_bytes width));
 }

@@ -40,10 +40,10 @@ abbrev pub cause_of_end : Setup → State → List Move → Option Why
 cause_of_end setup s [] = None
 cause_of_end setup s (move ∷ moves) = or_else (end_of setup s move) (cause_of_end setup (done setup s move) moves)
 
--- the cause for which a run in this mode ended
+-- the cause for which a run in this mode ended, if it did
 abbrev pub cause_in : Mode → Option Why
-cause_in mode.Running = None
 cause_in (mode.Ending cause) = Some cause
+cause_in _ = None
 
 -- the exit status of a run by its cause
 abbrev pub exit_status : Why → ℕ

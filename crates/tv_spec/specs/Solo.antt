@@ -45,22 +45,21 @@ makes setup solo e = record {
 }
 
 abbrev pub stopped_by : Mode → Option Stop
-stopped_by mode.Running = None
 stopped_by (mode.Ending cause) = Some (stop.Ended cause)
+stopped_by _ = None
 
 abbrev pub going : Solo → Going
 going solo = (solo, stopped_by solo.state.mode)
 
--- an event of a hart, where its instruction is carried out
-abbrev pub event_by : Setup → ℕ → Solo → Did → Going
-event_by setup hart solo did.Retired = going (makes setup solo (entry.Hart hart))
-event_by setup hart solo _ = (solo, Some (stop.Unbuilt (solo.state.harts hart).pc))
-
--- an event of a hart, where the journal has room for it
-abbrev pub solo_event : Setup → ℕ → ℕ → Solo → Going
-solo_event setup room hart solo =
-    if has_room room solo (entry.Hart hart) then event_by setup hart solo (event_of solo.state hart).0
+-- an event of a hart by what it did: a hart that stalls makes none; else the journal needs room for it
+abbrev pub event_by : Setup → ℕ → ℕ → Solo → Did → Going
+event_by setup room hart solo did.Full = (solo, None)
+event_by setup room hart solo _ =
+    if has_room room solo (entry.Hart hart) then going (makes setup solo (entry.Hart hart))
     else (solo, Some stop.Full)
+
+abbrev pub solo_event : Setup → ℕ → ℕ → Solo → Going
+solo_event setup room hart solo = event_by setup room hart solo (event_of solo.state hart).0
 
 -- up to so many events of a hart
 unfoldable pub turn : Setup → ℕ → ℕ → ℕ → Solo → Going

@@ -2,7 +2,6 @@
 use Rattle.std.specs.Prelude.{◌≡◌, ◌≢◌, ◌==◌, ℕ, ◌+◌, ◌%◌, ◌^◌, ◌<◌, if◌then◌else◌, Bool, true, false, Option, Some, None}
 use Rattle.tv_base.specs.declared.Why.{Why}
 use Rattle.tv_base.specs.declared.Why.TheVariants as why
-use Rattle.tv_hart.specs.declared.Did.TheVariants as did
 use Rattle.tv_hart.specs.Hart.{Outcome, stepped}
 use Rattle.tv_intc.specs.declared.ending.Finish.TheVariants as finisher
 use Rattle.tv_journal.specs.declared.Entry.{Entry}
@@ -13,7 +12,8 @@ use Rattle.tv_spec.specs.declared.Mode.TheVariants as mode
 use Rattle.tv_spec.specs.declared.Shown.{Shown}
 use Rattle.tv_spec.specs.declared.Shown.TheVariants as shown
 use Rattle.tv_spec.specs.Local.{local_meaning}
-use Rattle.tv_spec.specs.LocalState.{LocalState}
+use Rattle.tv_spec.specs.LocalState.{lines_of}
+use Rattle.tv_spec.specs.Reach.{Reach}
 use Rattle.tv_spec.specs.Setup.{Setup}
 use Rattle.tv_spec.specs.State.{State}
 use Rattle.tv_spec.specs.Update.{update}
@@ -23,9 +23,10 @@ pub data Move : Type 0 where
   made : Entry → Move
   ended : Why → Move
 
--- the event that a hart would make now: what it did, the hart after it, and memory with what it showed
-abbrev pub event_of : State → ℕ → Outcome LocalState
-event_of s hart = stepped local_meaning (s.harts hart) (record { ram = s.ram; shown = shown.Nothing })
+-- the event that a hart would make now: what it did, the hart after it, and its place after it with what it showed
+abbrev pub event_of : State → ℕ → Outcome Reach
+event_of s hart =
+    stepped local_meaning (s.harts hart) (record { local = s.local; shown = shown.Nothing }) (lines_of s.local hart)
 
 -- the cause for which an event ends the run by itself
 abbrev pub end_shown : Shown → Option Why
@@ -46,13 +47,16 @@ mode_by (Some cause) = mode.Ending cause
 abbrev pub end_of_event : Setup → State → ℕ → Option Why
 end_of_event setup s hart = end_at (s.events + 1 == setup.steps) (end_shown (event_of s hart).2.shown)
 
--- an event of a hart: the machine has that hart, the run goes on, the hart waits for no load, and its instruction is
--- carried out
+-- the run has not ended
+abbrev pub IsOpen : Mode → Type 0
+IsOpen (mode.Ending cause) = ⊥
+IsOpen _ = Unit {0}
+
+-- an event of a hart: the machine has that hart, the run goes on, and the hart waits for no load
 pub record CanStep (setup : Setup) (s : State) (hart : ℕ) : Type 0 where
   pub exists : hart < setup.harts
   pub running : s.mode ≡ mode.Running
   pub ready : (s.harts hart).waits ≡ None
-  pub carried : (event_of s hart).0 ≡ did.Retired
 
 -- a tick: the run goes on, the entry before is no tick, and time goes on by something
 pub record CanTick (s : State) (n : ℕ) : Type 0 where
@@ -60,9 +64,9 @@ pub record CanTick (s : State) (n : ℕ) : Type 0 where
   pub first : s.ticked ≡ false
   pub some : 0 < n
 
--- an end that no entry made: the run goes on, and the cause is one of those
+-- an end that no entry made: the run has not ended, and the cause is one of those
 pub record CanEnd (s : State) (cause : Why) : Type 0 where
-  pub running : s.mode ≡ mode.Running
+  pub is_open : IsOpen s.mode
   pub outer : cause_byte cause ≢ None
 
 -- where a move may stand
@@ -75,7 +79,7 @@ Can setup s (ended cause) = CanEnd s cause
 abbrev pub done : Setup → State → Move → State
 done setup s (made (entry.Hart hart)) = record s {
   harts = update s.harts hart (event_of s hart).1;
-  ram = (event_of s hart).2.ram;
+  local = (event_of s hart).2.local;
   mode = mode_by (end_of_event setup s hart);
   events = s.events + 1;
   ticked = false;

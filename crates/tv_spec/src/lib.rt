@@ -33,6 +33,4 @@ pub enum Stop {
     Ended(Why),
     /// An entry found no room in the journal.
     Full,
-    /// The next event of a hart is not built yet; the hart's pc.
-    Unbuilt(u64),
 }

@@ -1,7 +1,5 @@
 -- The status of each end and refusal, and the line that goes to the error output with it.
 use Rattle.std.specs.Prelude.{◌≡◌, ◌⊎◌, ◌||◌, not, if◌then◌else◌, ℕ, ◌++◌, List, [], Option, Some, None, Result, Ok, Err, ⊤, codes, decimal, length}
-use Rattle.std.specs.Int.{w64, to_be_bytes}
-use Rattle.hex.specs.Hex.{encode_lower}
 use Rattle.tv_out.specs.Faults.{Rose}
 use Rattle.tv_out.specs.Told.{ToldSink, appended}
 use Rattle.tv_base.specs.declared.Why.{Why}
@@ -18,13 +16,9 @@ use Rattle.tv_top.specs.declared.replay.ReplayRefusal.TheVariants as replay_refu
 use Rattle.tv_top.specs.declared.refusal.Refusal.{Refusal}
 use Rattle.tv_top.specs.declared.refusal.Refusal.TheVariants as refusal
 
--- the exit status of a run by the cause of its end; an open one stopped before an event that is not built
-abbrev pub cause_status : Option Why → ℕ
-cause_status None = 15
-cause_status (Some cause) = exit_status cause
-
+-- the exit status of a run by why it stopped
 abbrev pub stop_status : Option Stop → ℕ
-stop_status stopped = cause_status (cause_by stopped)
+stop_status stopped = exit_status (cause_by stopped)
 
 -- and that of a run of which something could not be put
 abbrev pub run_status : FlatRun → ℕ
@@ -58,10 +52,6 @@ replayed_status (Err why) = replay_status why
 abbrev pub line : List ℕ → List ℕ
 line text = codes "tv: " ++ (text ++ codes "\n")
 
--- a number as 16 hexadecimal digits
-abbrev pub hex_16 : ℕ → List ℕ
-hex_16 n = encode_lower (to_be_bytes w64 n)
-
 -- the line of a run that an event ended; one that was switched off or stopped has none
 abbrev pub end_line : ℕ → Why → List ℕ
 end_line steps why.PowerOff = []
@@ -75,7 +65,6 @@ abbrev pub stop_line : ℕ → List Entry → Option Stop → List ℕ
 stop_line steps entries None = line (codes "cannot write")
 stop_line steps entries (Some (stop.Ended cause)) = end_line steps cause
 stop_line steps entries (Some stop.Full) = line (codes "journal full after " ++ (decimal (record_count entries) ++ codes " records"))
-stop_line steps entries (Some (stop.Unbuilt pc)) = line (codes "not built at " ++ hex_16 pc)
 
 abbrev pub run_line : ℕ → FlatRun → List ℕ
 run_line steps run =

@@ -49,7 +49,6 @@ fn status_of(stop: Option<Stop>) -> u8
         None => 5,
         Some(Stop::Ended(why)) => exit_status(why),
         Some(Stop::Full) => 7,
-        Some(Stop::Unbuilt(_)) => 15,
     }
 }
 

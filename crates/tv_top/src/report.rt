@@ -44,7 +44,6 @@ fn say_stop<E: Sink>(err: &mut E, steps: u32, journal: &Journal, stop: Option<St
             Buffer::new().format(journal.records()).as_bytes(),
             b" records\n",
         ),
-        Some(Stop::Unbuilt(pc)) => say_unbuilt(err, pc),
     }
 }
 
@@ -103,17 +102,6 @@ pub fn say_replay<E: Sink>(err: &mut E, image: &str, journal: &str, refusal: Rep
             Buffer::new().format(record).as_bytes(),
             b"\n",
         ),
-    }
-}
-
-/// Says at which pc the run met what is not built.
-fn say_unbuilt<E: Sink>(err: &mut E, pc: u64)
-    ensures { IsSaid (stop_line 0 [] (Some (Stop.Unbuilt pc))) (E.told err.old) (E.told err.new) }
-{
-    let mut digits = [0; 16];
-    match hex::encode_to_slice(pc.to_be_bytes(), &mut digits) {
-        Ok(()) => say(err, b"not built at ", &digits, b"\n"),
-        Err(_) => unreachable!(),
     }
 }
 

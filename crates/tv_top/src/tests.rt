@@ -115,7 +115,7 @@ fn run(rt: &impl AllocGlobal, image: &[u8]) -> Result<Answer, Fail> {
 #[test]
 fn images_end_as_their_words_say(rt: HostRuntime) -> Result<(), Fail> {
     // Each image by its words, with the status, the output and the line.
-    let rows: [(&[u32], u8, &str, &str); 9] = [
+    let rows: [(&[u32], u8, &str, &str); 7] = [
         (
             &[
                 0x100002b7, 0x04100313, 0x00628023, 0x001002b7, 0x00005337, 0x55530313, 0x0062a023,
@@ -137,28 +137,25 @@ fn images_end_as_their_words_say(rt: HostRuntime) -> Result<(), Fail> {
             "tv: guest failed with code 0\n",
         ),
         (&[0x0000006f], 6, "", "tv: step limit 1000000\n"),
-        (&[0x00000073], 15, "", "tv: not built at 0000000080000000\n"),
-        (&[0x00002283], 15, "", "tv: not built at 0000000080000000\n"),
-        // A load of 4 bytes at 0x80000002, which is not aligned.
-        (
-            &[0x00000297, 0x0022a303],
-            15,
-            "",
-            "tv: not built at 0000000080000004\n",
-        ),
-        // A jump to 0x80000006, which is not aligned.
-        (
-            &[0x00000013, 0x002000ef],
-            15,
-            "",
-            "tv: not built at 0000000080000004\n",
-        ),
-        // `A` is put, and then the word 0 has no row.
+        // ECALL without a handler: it traps to address 0, where the hart traps on.
+        (&[0x00000073], 6, "", "tv: step limit 1000000\n"),
+        // `A` is put, and then the word 0 traps.
         (
             &[0x100002b7, 0x04100313, 0x00628023, 0x00000000],
-            15,
+            6,
             "A",
-            "tv: not built at 000000008000000c\n",
+            "tv: step limit 1000000\n",
+        ),
+        // A handler puts 54 more than the cause of ECALL, which is 11, and returns to the instruction after it.
+        (
+            &[
+                0x00000297, 0x02828293, 0x30529073, 0x00000073, 0x001005b7, 0x00005637, 0x55560613,
+                0x00c5a023, 0x00000013, 0x00000013, 0x34202373, 0x03630313, 0x100005b7, 0x00658023,
+                0x34102373, 0x00430313, 0x34131073, 0x30200073,
+            ],
+            0,
+            "A",
+            "",
         ),
     ];
     for (words, status, out, line) in rows {
@@ -271,20 +268,22 @@ fn journals_are_left_and_replayed(rt: HostRuntime) -> Result<(), Fail> {
 
 #[test]
 fn runs_stop_at_their_limit(rt: HostRuntime) -> Result<(), Fail> {
-    let store = files(
-        &rt,
-        &[("image", &[0x6f, 0, 0, 0])],
-        sink(&rt, 64, &[])?,
-        &[],
-    )?;
-    let words = ["flat", "--steps=10", "image", "--journal=journal"];
-    let answer = serve(&rt, &words, store, sink(&rt, 64, &[])?)?;
-    expect(&rt, &answer, 6, "", "tv: step limit 10\n");
-    let mut file = HELLO_JOURNAL;
-    file[6] = 10;
-    match &answer.journal {
-        Some(journal) => assert_eq!(rt; journal.as_slice(), file.as_slice()),
-        None => panic!(rt; "no journal"),
+    // Each by the low byte of its word, a jump to itself or none, and the limit.
+    for (word, option, line, events) in [
+        (0x6f, "--steps=10", "tv: step limit 10\n", 10),
+        (0x00, "--steps=3", "tv: step limit 3\n", 3),
+    ] {
+        let given: &[(&str, &[u8])] = &[("image", &[word, 0, 0, 0])];
+        let store = files(&rt, given, sink(&rt, 64, &[])?, &[])?;
+        let words = ["flat", option, "image", "--journal=journal"];
+        let answer = serve(&rt, &words, store, sink(&rt, 64, &[])?)?;
+        expect(&rt, &answer, 6, "", line);
+        let mut file = HELLO_JOURNAL;
+        file[6] = events;
+        match &answer.journal {
+            Some(journal) => assert_eq!(rt; journal.as_slice(), file.as_slice()),
+            None => panic!(rt; "no journal"),
+        }
     }
     Ok(())
 }

@@ -2,7 +2,7 @@
 -- chapter "Machine-Level ISA").
 use Rattle.std.specs.Prelude.{◌==◌, ℕ, ◌+◌, ◌%◌, ◌^◌, bit_and, Bool, true, false, if◌then◌else◌, Option, Some, None}
 use Rattle.tv_trap.specs.CsrState.{CsrState}
-use Rattle.tv_trap.specs.Registers.{aligned, is_set}
+use Rattle.tv_trap.specs.Registers.{is_set}
 
 -- a hart that starts: what its registers keep is 0, but for its number
 abbrev pub first_csrs : ℕ → CsrState
@@ -24,7 +24,7 @@ first_csrs hart = record {
 -- Cause Register" and "Privilege and Global Interrupt-Enable Stack in mstatus register")
 abbrev pub trap_entry : CsrState → ℕ → ℕ → ℕ → CsrState
 trap_entry s cause tval pc = record s {
-  mepc = aligned pc;
+  mepc = pc;
   mcause = cause;
   mtval = tval;
   mstatus_mpie = s.mstatus_mie;

@@ -113,6 +113,14 @@ impl Csrs {
         }
     }
 
+    /// The hart's number.
+    #[inline(always)]
+    pub fn hart(&self) -> HartNo
+        ensures { result ≡ self.now.hart }
+    {
+        self.hart
+    }
+
     /// The value of the register with this number, while these interrupt lines are up; `None` where
     /// there is no such register.
     pub fn read(&self, csr: u16, lines: u64) -> Option<u64>
@@ -190,11 +198,12 @@ impl Csrs {
     /// Enters a trap with this cause and value at this pc, and gives the pc at which the hart goes on.
     #[inline]
     pub fn enter(&mut self, cause: u64, tval: u64, pc: u64) -> u64
+        requires { pc % 4 ≡ 0 }
         ensures pc { result ≡ self.old.mtvec }
         ensures aligned { result % 4 ≡ 0 }
         ensures registers { self.new ≡ trap_entry self.old cause tval pc }
     {
-        self.mepc = align(pc);
+        self.mepc = pc;
         self.mcause = cause;
         self.mtval = tval;
         self.mstatus_mpie = self.mstatus_mie;

@@ -2,8 +2,8 @@ use super::Csrs;
 use std::test::Fail;
 use tv_base::HartNo;
 
-/// Every register: its number, the value at the start and the value after a write of all ones, while
-/// all lines are up. A refused write leaves the value at the start.
+/// Every register of hart 3: its number, the value at the start, which a write of 0 gives too, and the value after a
+/// write of all ones, while all lines are up. A refused write leaves the value at the start.
 const TABLE: [[u64; 3]; 15] = [
     [0x300, 0x1800, 0x1888],
     [0x301, 0x8000_0000_0000_1101, 0x8000_0000_0000_1101],
@@ -19,7 +19,7 @@ const TABLE: [[u64; 3]; 15] = [
     [0xf11, 0, 0],
     [0xf12, 0, 0],
     [0xf13, 0, 0],
-    [0xf14, 0, 0],
+    [0xf14, 3, 3],
 ];
 
 /// The value of a register while no line is up, and 1 where there is none.
@@ -31,19 +31,21 @@ fn value(csrs: &Csrs, csr: u16) -> u64 {
 fn each_register_keeps_what_its_row_says(rt: HostRuntime) -> Result<(), Fail> {
     for [number, at_start, kept] in TABLE {
         let csr = (number & 0xffff) as u16;
-        let mut csrs = Csrs::new(HartNo::FIRST);
-        assert_eq!(rt; csrs.read(csr, u64::MAX), Some(at_start));
-        assert_eq!(rt; csrs.write(csr, u64::MAX), number < 0xf11);
-        assert_eq!(rt; csrs.read(csr, u64::MAX), Some(kept));
+        let mut csrs = Csrs::new(HartNo::new(3).unwrap_or(HartNo::FIRST));
+        assert_eq!(rt; csrs.read(csr, u64::MAX), Some(at_start), "{csr}");
+        assert_eq!(rt; csrs.write(csr, u64::MAX), number < 0xf11, "{csr}");
+        assert_eq!(rt; csrs.read(csr, u64::MAX), Some(kept), "{csr}");
+        assert_eq!(rt; csrs.write(csr, 0), number < 0xf11, "{csr}");
+        assert_eq!(rt; csrs.read(csr, u64::MAX), Some(at_start), "{csr}");
     }
     Ok(())
 }
 
 #[test]
 fn numbers_without_a_register_are_refused(rt: HostRuntime) -> Result<(), Fail> {
-    // sstatus, medeleg, mcountinhibit, cycle, mconfigptr and neighbours of the table's numbers
+    // sstatus, medeleg, mstatush, mcountinhibit, cycle, mconfigptr and neighbours of the table's numbers
     for csr in [
-        0x100, 0x302, 0x303, 0x306, 0x320, 0xb01, 0xb03, 0xc00, 0xf10, 0xf15,
+        0x100, 0x302, 0x303, 0x306, 0x310, 0x320, 0xb01, 0xb03, 0xc00, 0xf10, 0xf15,
     ] {
         let mut csrs = Csrs::new(HartNo::FIRST);
         assert!(rt; csrs.read(csr, 0).is_none() && !csrs.write(csr, 1));
@@ -53,17 +55,20 @@ fn numbers_without_a_register_are_refused(rt: HostRuntime) -> Result<(), Fail> {
 
 #[test]
 fn a_trap_is_entered_and_left(rt: HostRuntime) -> Result<(), Fail> {
-    let mut csrs = Csrs::new(HartNo::FIRST);
-    csrs.write(0x300, 0x8);
-    csrs.write(0x305, 0x8000_0101);
-    let handler = csrs.enter(2, 0x3333, 0x8000_0010);
-    let told = [0x300, 0x341, 0x342, 0x343].map(|csr| value(&csrs, csr));
-    let back = csrs.mret();
-    assert_eq!(rt; told, [0x1880, 0x8000_0010, 2, 0x3333]);
-    assert_eq!(rt;
-        [handler, back, value(&csrs, 0x300)],
-        [0x8000_0100, 0x8000_0010, 0x1888]
-    );
+    // MPIE takes MIE, which becomes 0; then MIE takes MPIE, which becomes 1
+    for [before, inside, after] in [[0x8, 0x1880, 0x1888], [0x80, 0x1800, 0x1880]] {
+        let mut csrs = Csrs::new(HartNo::FIRST);
+        csrs.write(0x300, before);
+        csrs.write(0x305, 0x8000_0101);
+        let handler = csrs.enter(2, 0x3333, 0x8000_0010);
+        let told = [0x300, 0x341, 0x342, 0x343].map(|csr| value(&csrs, csr));
+        let back = csrs.mret();
+        assert_eq!(rt; told, [inside, 0x8000_0010, 2, 0x3333]);
+        assert_eq!(rt;
+            [handler, back, value(&csrs, 0x300)],
+            [0x8000_0100, 0x8000_0010, after]
+        );
+    }
     Ok(())
 }
 

@@ -1,8 +1,8 @@
-use Rattle.std.proofs.Common.{◌≡◌, ℕ, ap, subst, ◌∙◌, inl, inr, arith, refl, ◌+◌}
-use Rattle.tv_hart.proofs.Steps.{IsOver}
+use Rattle.std.proofs.Common.{◌≡◌, ℕ, ap, subst, inl, inr, arith, refl, ◌+◌}
+use Rattle.tv_hart.proofs.Steps.{IsOver, over_waits}
 use Rattle.tv_spec.specs.declared.Shown.{Shown}
 use Rattle.tv_spec.specs.declared.Shown.TheVariants as shown
-use Rattle.tv_spec.specs.LocalState.{LocalState}
+use Rattle.tv_spec.specs.Reach.{Reach}
 use Rattle.tv_model.specs.Burst.{IsBurst}
 use Rattle.tv_model.proofs.AtOnce.{local_over}
 use Rattle.tv_model.proofs.Bursts.{along-start, along-more}
@@ -17,40 +17,28 @@ step-requires c = c.loop-made.invariant.ready
 pub unreachable-requires : goal.unreachable-requires
 unreachable-requires c =
     let over : IsOver c.step.result =
-    local_over c.loop-made.hart c.loop-made.local (c.step.result, c.step.new.self, c.step.new.place) c.step.ensures.event in
+    local_over c.loop-made.hart c.loop-made.local 0 (c.step.result, c.step.new.self, c.step.new.place) c.step.ensures.event in
     elim c.in-Held.is [ inl held ↦ subst IsOver held over | inr full ↦ subst IsOver full over ]
-
-pub returns-in-Unbuilt-clause-burst : goal.returns-in-Unbuilt-clause-burst
-returns-in-Unbuilt-clause-burst c = λ setup s number at.
-    rw (c.in-Unbuilt.ensures.unchanged.0, c.in-Unbuilt.ensures.unchanged.1) (c.loop-made.invariant.burst setup s number at)
-
-pub returns-in-Unbuilt-clause-quiet : goal.returns-in-Unbuilt-clause-quiet
-returns-in-Unbuilt-clause-quiet c = rw c.in-Unbuilt.ensures.unchanged.1 c.loop-made.invariant.quiet
-
-pub returns-in-Unbuilt-clause-same : goal.returns-in-Unbuilt-clause-same
-returns-in-Unbuilt-clause-same c = λ none.
-    let same = c.loop-made.invariant.same none in
-    (c.in-Unbuilt.ensures.unchanged.0 ∙ same.0, c.in-Unbuilt.ensures.unchanged.1 ∙ same.1, refl)
 
 pub returns-in_default : goal.returns-in_default
 returns-in_default c = record {
   burst = along-more c.args.hart.now c.loop-made.hart c.step.new.self c.args.local.now c.loop-made.local c.step.new.place c.take_shown.new.self c.args.most c.loop-made.made c.step.result c.take_shown.result
-      c.loop-made.invariant c.loop-made-test.true c.step.ensures.event c.in-Retired.is c.take_shown.ensures.shown c.take_shown.ensures.taken;
-  ready = c.in-Retired.ensures.waits;
-  quiet = ap (λ (l : LocalState). l.shown) c.take_shown.ensures.taken;
+      c.loop-made.invariant c.loop-made-test.true c.step.ensures.event c.take_shown.ensures.shown c.take_shown.ensures.taken;
+  ready = over_waits c.step.result c.step.new.self.waits (local_over c.loop-made.hart c.loop-made.local 0 (c.step.result, c.step.new.self, c.step.new.place) c.step.ensures.event) c.step.ensures.waits;
+  quiet = ap (λ (l : Reach). l.shown) c.take_shown.ensures.taken;
   few = omega (arith, c.loop-made-test.true);
-  stops = λ few nothing. absurd (c.in_default.not-Nothing nothing);
+  all = λ nothing. absurd (c.in_default.not-Nothing nothing);
   same = λ none. absurd (omega (arith, none));
 }
 
 pub loop-made-preserved : goal.loop-made-preserved
 loop-made-preserved c = record {
   burst = λ setup s number at.
-      subst (λ (seen : Shown). IsBurst setup s number (c.loop-made.made + 1) c.step.new.self c.take_shown.new.self.ram seen) c.in-Nothing.is
+      subst (λ (seen : Shown). IsBurst setup s number (c.loop-made.made + 1) c.step.new.self c.take_shown.new.self.local seen) c.in-Nothing.is
       (along-more c.args.hart.now c.loop-made.hart c.step.new.self c.args.local.now c.loop-made.local c.step.new.place c.take_shown.new.self c.args.most c.loop-made.made c.step.result c.take_shown.result
-      c.loop-made.invariant c.loop-made-test.true c.step.ensures.event c.in-Retired.is c.take_shown.ensures.shown c.take_shown.ensures.taken setup s number at);
-  ready = c.in-Retired.ensures.waits;
-  quiet = ap (λ (l : LocalState). l.shown) c.take_shown.ensures.taken;
+      c.loop-made.invariant c.loop-made-test.true c.step.ensures.event c.take_shown.ensures.shown c.take_shown.ensures.taken setup s number at);
+  ready = over_waits c.step.result c.step.new.self.waits (local_over c.loop-made.hart c.loop-made.local 0 (c.step.result, c.step.new.self, c.step.new.place) c.step.ensures.event) c.step.ensures.waits;
+  quiet = ap (λ (l : Reach). l.shown) c.take_shown.ensures.taken;
   same = λ none. absurd (omega (arith, none));
 }
 
@@ -58,7 +46,7 @@ pub returns-clause-burst : goal.returns-clause-burst
 returns-clause-burst c =
     let all : c.loop-made.made ≡ c.args.most = omega (arith, c.loop-made-test.false, c.loop-made.auto.made-end) in
     λ setup s number at.
-    subst (λ (n : ℕ). IsBurst setup s number n c.loop-made.hart c.loop-made.local.ram shown.Nothing) all (c.loop-made.invariant.burst setup s number at)
+    subst (λ (n : ℕ). IsBurst setup s number n c.loop-made.hart c.loop-made.local.local shown.Nothing) all (c.loop-made.invariant.burst setup s number at)
 
 pub returns-clause-ready : goal.returns-clause-ready
 returns-clause-ready c = c.loop-made.invariant.ready
