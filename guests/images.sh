@@ -1,0 +1,20 @@
+#!/bin/sh
+# Writes guests as constants of Rattle for tests to the standard output: for each name its image as bytes, and the text that
+# it prints. `make images` puts them where the tests of the program read them.
+cd "$(dirname "$0")" || exit 2
+
+echo "//! Guests of \`guests/\`, and what they print. \`make -C guests images\` writes this file."
+for name in "$@"; do
+    constant="$(echo "$name" | tr a-z A-Z)"
+    echo
+    echo "/// The image of \`guests/$name\`."
+    echo "pub const $constant: &[u8] = b\"\\"
+    od -An -v -tx1 -w28 "$name/$name.bin" | sed 's/ /\\x/g; s/.*/    &\\/' || exit 1
+    echo "    \";"
+    echo
+    echo "/// What it prints."
+    echo "pub const ${constant}_TEXT: &str = \"\\"
+    # A space at the head of a line would be taken for the layout of the constant.
+    sed 's/[\\"]/\\&/g; s/^ /\\x20/; s/.*/    &\\n\\/' "$name/$name.txt" || exit 1
+    echo "    \";"
+done
