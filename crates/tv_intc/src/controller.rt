@@ -180,9 +180,9 @@ impl Intc {
     /// the hart gives one.
     #[inline]
     pub fn lines(&self, hart: HartNo) -> u64
-        requires { hart < self.now.harts }
         ensures value { result ≡ lines_of self.now hart }
         ensures claim { (result ≡ 0) ↔ (choice self.now hart 8 ≡ 0) }
+        ensures fits { result < 2 ^ 12 }
     {
         u64::from(self.has_eligible(hart.get())) << EXTERNAL_LINE
     }
@@ -226,7 +226,7 @@ impl Intc {
     // Whether a source is eligible for a hart.
     #[inline]
     fn is_eligible(&self, hart: u8, source: u8) -> bool
-        requires hart { hart < self.now.harts }
+        requires hart { hart < 8 }
         requires source { source ≤ 8 }
         ensures { result ≡ is_eligible self.now hart source }
     {
@@ -240,7 +240,7 @@ impl Intc {
     // Whether any source is eligible for a hart.
     #[inline]
     fn has_eligible(&self, hart: u8) -> bool
-        requires { hart < self.now.harts }
+        requires { hart < 8 }
         ensures { result ≡ any_eligible self.now hart 8 }
     {
         let mut any = false;

@@ -100,8 +100,8 @@ impl Timer {
     /// compare value.
     #[inline]
     pub fn lines(&self, hart: HartNo) -> u64
-        requires { hart < self.now.harts }
-        ensures { result ≡ lines_of self.now hart }
+        ensures value { result ≡ lines_of self.now hart }
+        ensures fits { result < 2 ^ 8 }
     {
         let place = hart.get() as usize;
         let software = u64::from(self.software[place]) << SOFTWARE_LINE;

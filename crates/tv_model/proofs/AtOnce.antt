@@ -10,14 +10,14 @@ use Rattle.tv_hart.proofs.Steps.{IsOver, IsAnswered, IsSettled, AnswersAtOnce, o
 use Rattle.tv_spec.specs.Local.{local_meaning, load_from, store_to, target_at}
 use Rattle.tv_spec.specs.Reach.{Reach}
 
-load_answered : (p : Reach) (addr n : ℕ) (place : Option (Target × ℕ)) → IsAnswered (load_from p addr n place).0
-load_answered p addr n None = tt
-load_answered p addr n (Some (target.Ram, off)) = tt
-load_answered p addr n (Some (target.Finisher, off)) = tt
-load_answered p addr n (Some (target.Timer, off)) = tt
-load_answered p addr n (Some (target.Intc, off)) = tt
-load_answered p addr n (Some (target.Debug, off)) = tt
-load_answered p addr n (Some (target.Device device, off)) = tt
+load_answered : (p : Reach) (width : Width) (addr : ℕ) (place : Option (Target × ℕ)) → IsAnswered (load_from p width addr place).0
+load_answered p width addr None = tt
+load_answered p width addr (Some (target.Ram, off)) = tt
+load_answered p width addr (Some (target.Finisher, off)) = tt
+load_answered p width addr (Some (target.Timer, off)) = tt
+load_answered p width addr (Some (target.Intc, off)) = tt
+load_answered p width addr (Some (target.Debug, off)) = tt
+load_answered p width addr (Some (target.Device device, off)) = tt
 
 store_settled : (p : Reach) (hart : ℕ) (width : Width) (addr value : ℕ) (place : Option (Target × ℕ)) → IsSettled (store_to p hart width addr value place).0
 store_settled p hart width addr value None = tt
@@ -30,7 +30,7 @@ store_settled p hart width addr value (Some (target.Device device, off)) = tt
 
 at_once : (p : Reach) → AnswersAtOnce local_meaning p
 at_once p = record {
-  loads = λ hart width addr. load_answered p addr (width_bytes width) (target_at p addr (width_bytes width));
+  loads = λ hart width addr. load_answered p width addr (target_at p addr (width_bytes width));
   stores = λ hart width addr value. store_settled p hart width addr value (target_at p addr (width_bytes width));
 }
 

@@ -20,7 +20,7 @@ use Rattle.tv_spec.specs.Local.{local_meaning}
 use Rattle.tv_spec.specs.Reach.{Reach}
 use Rattle.tv_spec.specs.Setup.{Setup}
 use Rattle.tv_spec.specs.Shows.{byte_shown, debug_bytes, bytes_of}
-use Rattle.tv_spec.specs.LocalState.{LocalState}
+use Rattle.tv_spec.specs.LocalState.{LocalState, lines_of}
 use Rattle.tv_spec.specs.State.{State}
 use Rattle.tv_spec.specs.Step.{Move, made, Can, done, event_of, end_at, end_shown, mode_by}
 use Rattle.tv_spec.specs.Update.{update}
@@ -72,7 +72,7 @@ burst-none setup s hart here local most at =
     let events_are : s.events ≡ s.events + 0 = omega arith in
     record {
       legal = tt;
-      state = same_state _ _ (update-same s.harts hart here at.hart_is) at.local_is refl mode_is events_are refl;
+      state = same_state _ _ (update-same s.harts hart here at.hart_is) at.local_is mode_is events_are refl;
       bytes = refl;
       last = λ n is. absurd (omega (arith, is));
     }
@@ -80,7 +80,7 @@ burst-none setup s hart here local most at =
 -- an event more, after events that showed nothing
 pub burst-more : (setup : Setup) (s : State) (hart : ℕ) (first here later : HartState) (local now : LocalState) (most count : ℕ) (result : Did) (place : Reach) (seen : Shown)
     → Stands setup s hart first local most → IsBurst setup s hart count here now shown.Nothing → count < most → here.waits ≡ None
-    → ◌≡◌ {A = Outcome Reach} (result, later, place) (stepped local_meaning here (record { local = now; shown = shown.Nothing }) 0) → seen ≡ place.shown
+    → ◌≡◌ {A = Outcome Reach} (result, later, place) (stepped local_meaning here (record { local = now; shown = shown.Nothing }) (lines_of now hart)) → seen ≡ place.shown
     → IsBurst setup s hart (count + 1) later place.local seen
 burst-more setup s hart first here later local now most count result place seen at burst few ready event seen_is =
     let e : Move = made (entry.Hart hart) in
@@ -90,7 +90,7 @@ burst-more setup s hart first here later local now most count result place seen 
     let running : mid.mode ≡ mode.Running = rw below refl in
     let here_is : mid.harts hart ≡ here = update-at s.harts hart here in
     let is : event_of mid hart ≡ (result, later, place) =
-    ap (λ (h : HartState). stepped local_meaning h (record { local = now; shown = shown.Nothing }) 0) here_is ∙ sym event in
+    ap (λ (h : HartState). stepped local_meaning h (record { local = now; shown = shown.Nothing }) (lines_of now hart)) here_is ∙ sym event in
     let can_mid : Can setup mid e = record {
       exists = at.exists;
       running = running;
@@ -115,7 +115,7 @@ burst-more setup s hart first here later local now most count result place seen 
           ap (after setup s) list
           ∙ after-append setup s (events_of hart count) (e ∷ [])
           ∙ ap (λ (t : State). done setup t e) burst.state
-          ∙ same_state _ _ harts_are (ap (λ (o : Outcome Reach). o.2.local) is) refl mode_is sum ticked_is;
+          ∙ same_state _ _ harts_are (ap (λ (o : Outcome Reach). o.2.local) is) mode_is sum ticked_is;
       bytes =
           ap (debug_bytes setup s) list
           ∙ debug-append setup s (events_of hart count) (e ∷ [])
@@ -128,45 +128,46 @@ burst-more setup s hart first here later local now most count result place seen 
     }
 
 -- so many events were made, and none of them showed anything
-pub record IsAlong (first here : HartState) (reach now : Reach) (most count : ℕ) : Type 0 where
-  pub burst : (setup : Setup) (s : State) (hart : ℕ) → Stands setup s hart first reach.local most → IsBurst setup s hart count here now.local shown.Nothing
+pub record IsAlong (hart : ℕ) (first here : HartState) (reach now : Reach) (most count : ℕ) : Type 0 where
+  pub burst : (setup : Setup) (s : State) → Stands setup s hart first reach.local most → IsBurst setup s hart count here now.local shown.Nothing
   pub ready : here.waits ≡ None
   pub quiet : now.shown ≡ shown.Nothing
   pub same : count ≡ 0 → (here ≡ first) × (now ≡ reach)
 
-pub along-start : (first : HartState) (reach : Reach) (most : ℕ) → first.waits ≡ None → reach.shown ≡ shown.Nothing → IsAlong first first reach reach most 0
-along-start first reach most ready quiet = record {
-  burst = λ setup s hart at. burst-none setup s hart first reach.local most at;
+pub along-start : (hart : ℕ) (first : HartState) (reach : Reach) (most : ℕ) → first.waits ≡ None → reach.shown ≡ shown.Nothing → IsAlong hart first first reach reach most 0
+along-start hart first reach most ready quiet = record {
+  burst = λ setup s at. burst-none setup s hart first reach.local most at;
   ready = ready;
   quiet = quiet;
   same = λ none. (refl, refl);
 }
 
 -- an event more, as the code comes to it
-pub along-more : (first here later : HartState) (reach now place quiet : Reach) (most count : ℕ) (result : Did) (seen : Shown) → IsAlong first here reach now most count → count < most
-    → ◌≡◌ {A = Outcome Reach} (result, later, place) (stepped local_meaning here now 0) → seen ≡ place.shown → quiet ≡ record place { shown = shown.Nothing }
-    → (setup : Setup) (s : State) (hart : ℕ) → Stands setup s hart first reach.local most → IsBurst setup s hart (count + 1) later quiet.local seen
-along-more first here later reach now place quiet most count result seen along few event seen_is quiet_is setup s hart at =
+pub along-more : (hart : ℕ) (first here later : HartState) (reach now asked place quiet : Reach) (most count lines : ℕ) (result : Did) (seen : Shown) → IsAlong hart first here reach now most count → count < most → lines ≡ lines_of now.local hart → asked ≡ now
+    → ◌≡◌ {A = Outcome Reach} (result, later, place) (stepped local_meaning here asked lines) → seen ≡ place.shown → quiet ≡ record place { shown = shown.Nothing }
+    → (setup : Setup) (s : State) → Stands setup s hart first reach.local most → IsBurst setup s hart (count + 1) later quiet.local seen
+along-more hart first here later reach now asked place quiet most count lines result seen along few lines_are asked_is event seen_is quiet_is setup s at =
     let now_is : now ≡ record { local = now.local; shown = shown.Nothing } = λ i. record { local = now.local; shown = along.quiet i } in
-    let event_is : ◌≡◌ {A = Outcome Reach} (result, later, place) (stepped local_meaning here (record { local = now.local; shown = shown.Nothing }) 0) =
-    event ∙ ap (λ (l : Reach). stepped local_meaning here l 0) now_is in
+    let event_is : ◌≡◌ {A = Outcome Reach} (result, later, place) (stepped local_meaning here (record { local = now.local; shown = shown.Nothing }) (lines_of now.local hart)) =
+    event ∙ ap (λ (l : Reach). stepped local_meaning here l lines) asked_is ∙ ap (stepped local_meaning here now) lines_are
+    ∙ ap (λ (l : Reach). stepped local_meaning here l (lines_of now.local hart)) now_is in
     subst (λ (local : LocalState). IsBurst setup s hart (count + 1) later local seen) (sym (ap (λ (l : Reach). l.local) quiet_is))
-    (burst-more setup s hart first here later reach.local now.local most count result place seen at (along.burst setup s hart at) few along.ready event_is seen_is)
+    (burst-more setup s hart first here later reach.local now.local most count result place seen at (along.burst setup s at) few along.ready event_is seen_is)
 
 -- a burst of some events, as the code comes to it
-pub burst-made : (harts : List HartState) (reach place : Reach) (time : ℕ) (now next : Mode) (events : ℕ) (ticked : Bool) (steps n number most limit count : ℕ) (hart later : HartState) (seen : Shown)
+pub burst-made : (harts : List HartState) (reach place : Reach) (now next : Mode) (events : ℕ) (ticked : Bool) (steps n number most limit count : ℕ) (hart later : HartState) (seen : Shown)
     → now ≡ mode.Running → events < steps → number < length harts → number ≡ n → hart ≡ get_or harts number hart
     → limit ≡ min most (steps - events)
-    → ((setup : Setup) (s : State) (k : ℕ) → Stands setup s k hart reach.local limit → IsBurst setup s k count later place.local seen)
+    → ((setup : Setup) (s : State) → Stands setup s n hart reach.local limit → IsBurst setup s n count later place.local seen)
     → place.shown ≡ shown.Nothing → count ≤ limit → (seen ≡ shown.Nothing → count ≡ limit) → count ≢ 0
     → next ≡ mode_by (end_at (eqb (events + count) steps) (end_shown seen))
-    → IsBurstOf (seen-guest harts reach.local time now events ticked steps) (seen-guest (set harts number later) place.local time next (events + count) false steps) n most count seen
-burst-made harts reach place time now next events ticked steps n number most limit count hart later seen running below within number_is at limit_is burst quiet few stops some next_is =
-    let old = seen-guest harts reach.local time now events ticked steps in
-    let new = seen-guest (set harts number later) place.local time next (events + count) false steps in
+    → IsBurstOf (seen-guest harts reach.local now events ticked steps) (seen-guest (set harts number later) place.local next (events + count) false steps) n most count seen
+burst-made harts reach place now next events ticked steps n number most limit count hart later seen running below within number_is at limit_is burst quiet few stops some next_is =
+    let old = seen-guest harts reach.local now events ticked steps in
+    let new = seen-guest (set harts number later) place.local next (events + count) false steps in
     let here : n < length harts = omega (arith, within, number_is) in
     let at_n : hart ≡ get_or harts n hart = at ∙ ap (λ (k : ℕ). get_or harts k hart) number_is in
-    let made_is : IsBurst old.setup (state_of old) n count later place.local seen = burst old.setup (state_of old) n (record {
+    let made_is : IsBurst old.setup (state_of old) n count later place.local seen = burst old.setup (state_of old) (record {
       exists = here;
       running = running;
       hart_is = get_or_default harts n (first_hart n) hart here ∙ sym at_n;
@@ -182,7 +183,7 @@ burst-made harts reach place time now next events ticked steps n number most lim
         state =
             same_state _ _
             (ap (λ (m : ℕ). λ (k : ℕ). get_or (set harts m later) k (first_hart k)) number_is ∙ hart_put harts n later here)
-            refl refl next_is refl ticked_is
+            refl next_is refl ticked_is
             ∙ sym made_is.state;
       };
       bytes = made_is.bytes;

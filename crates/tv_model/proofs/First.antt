@@ -11,9 +11,8 @@ use Rattle.tv_ram.proofs.Inside.{image_written, length_zeros}
 use Rattle.tv_spec.specs.declared.Mode.TheVariants as mode
 use Rattle.tv_spec.specs.declared.Shown.TheVariants as shown
 use Rattle.tv_spec.specs.Reach.{Reach}
-use Rattle.tv_spec.specs.Reservations.{none_reserved}
 use Rattle.tv_spec.specs.Setup.{Setup}
-use Rattle.tv_spec.specs.LocalState.{LocalState, first_local}
+use Rattle.tv_spec.specs.LocalState.{first_local}
 use Rattle.tv_model.specs.Guest.{AreFirst, IsFirst}
 use Rattle.tv_model.proofs.States.{same_state, same_function, seen}
 
@@ -29,8 +28,8 @@ image-inside bytes n fits =
 -- a machine as its run begins
 pub first-guest : (machine : Machine) (image blank ram : List ℕ) (harts : List HartState) (reach : Reach) (loaded : Bool) → AreFirst harts machine.harts → blank ≡ zeros machine.ram
     → loaded ≡ is_inside (length blank) ram_base (length image) → OnTrue loaded (ram ≡ with_bytes blank ram_base image) → length image ≤ machine.ram
-    → reach ≡ record { local = record { ram = ram; reservations = none_reserved }; shown = shown.Nothing }
-    → IsFirst (seen harts reach.local 0 mode.Running 0 false machine.steps) machine image
+    → reach ≡ record { local = first_local machine.harts ram; shown = shown.Nothing }
+    → IsFirst (seen harts reach.local mode.Running 0 false machine.steps) machine image
 first-guest machine image blank ram harts reach loaded first blank_is loaded_is written fits reach_is =
     let long : length blank ≡ machine.ram = ap length blank_is ∙ length_zeros machine.ram in
     let fits_blank : length image ≤ length blank = omega arith in
@@ -38,9 +37,9 @@ first-guest machine image blank ram harts reach loaded first blank_is loaded_is 
     let done : OnTrue true (ram ≡ with_bytes blank ram_base image) = subst (λ (b : Bool). OnTrue b (ram ≡ with_bytes blank ram_base image)) yes written in
     let ram_is : ram ≡ with_image machine.ram image =
     done ∙ ap (λ (xs : List ℕ). with_bytes xs ram_base image) blank_is ∙ image_written machine.ram image in
-    let local_is : reach.local ≡ first_local machine.ram image =
-    ap (λ (l : Reach). l.local) reach_is ∙ ap (λ (xs : List ℕ). let local : LocalState = record { ram = xs; reservations = none_reserved } in local) ram_is in
+    let local_is : reach.local ≡ first_local machine.harts (with_image machine.ram image) =
+    ap (λ (l : Reach). l.local) reach_is ∙ ap (first_local machine.harts) ram_is in
     record {
       setup = ap (λ (k : ℕ). let setup : Setup = record { harts = k; steps = machine.steps } in setup) first.count_is;
-      state = same_state _ _ (all-first harts machine.harts first) local_is refl refl refl refl;
+      state = same_state _ _ (all-first harts machine.harts first) local_is refl refl refl;
     }

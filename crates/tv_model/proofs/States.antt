@@ -15,9 +15,9 @@ use Rattle.tv_spec.specs.Update.{update}
 use Rattle.tv_model.specs.GuestState.{GuestState}
 
 -- states with equal parts are one
-pub same_state : (a b : State) → a.harts ≡ b.harts → a.local ≡ b.local → a.time ≡ b.time → a.mode ≡ b.mode → a.events ≡ b.events → a.ticked ≡ b.ticked → a ≡ b
-same_state a b harts local time mode_is events ticked =
-    λ i. record { harts = harts i; local = local i; time = time i; mode = mode_is i; events = events i; ticked = ticked i }
+pub same_state : (a b : State) → a.harts ≡ b.harts → a.local ≡ b.local → a.mode ≡ b.mode → a.events ≡ b.events → a.ticked ≡ b.ticked → a ≡ b
+same_state a b harts local mode_is events ticked =
+    λ i. record { harts = harts i; local = local i; mode = mode_is i; events = events i; ticked = ticked i }
 
 -- functions that agree everywhere are one
 pub same_function : {A : Type 0} → (f g : ℕ → A) → ((k : ℕ) → f k ≡ g k) → f ≡ g
@@ -32,9 +32,9 @@ hart_put harts n hart within = same_function _ _ (λ (k : ℕ). elim (eqb_tells 
 ])
 
 -- the guest's machine as contracts see it
-abbrev pub seen : List HartState → LocalState → ℕ → Mode → ℕ → Bool → ℕ → GuestState
-seen harts local time now events ticked steps =
-    record { setup = record { harts = length harts; steps = steps }; harts = harts; local = local; time = time; mode = now; events = events; ticked = ticked }
+abbrev pub seen : List HartState → LocalState → Mode → ℕ → Bool → ℕ → GuestState
+seen harts local now events ticked steps =
+    record { setup = record { harts = length harts; steps = steps }; harts = harts; local = local; mode = now; events = events; ticked = ticked }
 
 -- whether a run goes on
 abbrev pub runs : Mode → Bool

@@ -23,7 +23,6 @@ abbrev pub state_of : GuestState → State
 state_of guest = record {
   harts = λ hart. slice_index_or guest.harts hart (first_hart hart);
   local = guest.local;
-  time = guest.time;
   mode = guest.mode;
   events = guest.events;
   ticked = guest.ticked;

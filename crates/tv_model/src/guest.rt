@@ -1,4 +1,4 @@
-//! A guest's machine: harts, memory and time, which move by the entries of a journal.
+//! A guest's machine: harts, memory and local ports, which move by the entries of a journal.
 
 ghost use Rattle.std.specs.Prelude.{◌≡◌, ◌≢◌, ◌<◌, ◌≤◌, ◌↔◌, IsTrue, None, IfOk, length};
 ghost use Rattle.tv_machine_file.specs.Valid.{IsValid};
@@ -24,7 +24,6 @@ use tv_spec::{Mode, Shown};
 pub struct Guest {
     harts: Vec<Hart>,
     local: Local,
-    time: u64,
     mode: Mode,
     events: u32,
     ticked: bool,
@@ -39,7 +38,7 @@ impl Model for Guest {
 
     ghost use Rattle.tv_model.specs.Guest.{IsGuest};
 
-    ghost view = { λ g. record { setup = record { harts = length g.harts.items; steps = g.steps }; harts = g.harts.items; local = g.local.local; time = g.time; mode = g.mode; events = g.events; ticked = g.ticked } };
+    ghost view = { λ g. record { setup = record { harts = length g.harts.items; steps = g.steps }; harts = g.harts.items; local = g.local.local; mode = g.mode; events = g.events; ticked = g.ticked } };
 
     ghost invariant = { λ g. IsGuest g.harts.items g.local.shown g.mode g.events g.steps };
 }
@@ -59,11 +58,11 @@ impl Guest {
             Err(_) => return Err(Memory),
         };
         let _loaded = ram.write(RAM_BASE, image);
+        let local = Local::new(alloc, ram, machine.harts)?;
         let harts = first_harts(alloc, machine.harts)?;
         Ok(Guest {
             harts,
-            local: Local::new(ram),
-            time: 0,
+            local,
             mode: Mode::Running,
             events: 0,
             ticked: false,
@@ -87,7 +86,7 @@ impl Guest {
         self.harts.len() as u8
     }
 
-    /// A burst: up to so many events of a hart, and what the last one showed outside memory. It is shorter than asked for
+    /// A burst: up to so many events of a hart, and what the last one showed outside the machine. It is shorter than asked for
     /// only where the last one showed something or one more may not stand; none was made exactly where the first may not
     /// stand or `most` is 0, and nothing is changed then.
     pub fn burst(&mut self, hart: HartNo, most: u32) -> (u32, Shown)
@@ -98,7 +97,12 @@ impl Guest {
             return (0, Shown::Nothing);
         }
         let left = self.steps - self.events;
-        let made = run_events(&mut self.harts[number], &mut self.local, most.min(left));
+        let made = run_events(
+            &mut self.harts[number],
+            &mut self.local,
+            hart,
+            most.min(left),
+        );
         if made.0 == 0 {
             return made;
         }
@@ -115,7 +119,7 @@ impl Guest {
         if !is_running(self.mode) || self.ticked || n == 0 {
             return false;
         }
-        self.time = self.time.wrapping_add(u64::from(n));
+        self.local.tick(n);
         self.ticked = true;
         true
     }

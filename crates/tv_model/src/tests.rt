@@ -225,7 +225,7 @@ fn reservations_end_by_the_writes_of_others(rt: HostRuntime) -> Result<(), Fail>
         ((0, Act::Store, Width::B8, 0x200), (Width::B4, 0x208), false),
     ];
     for (row, ((number, act, width, at), (wide, place), stored)) in rows.into_iter().enumerate() {
-        let mut local = Local::new(Ram::new(rt.alloc(), 0x1_0000)?);
+        let mut local = Local::new(rt.alloc(), Ram::new(rt.alloc(), 0x1_0000)?, 8)?;
         let base = 0x8000_0000;
         assert!(rt; at < 0x400 && place < 0x400);
         let reserved = (0, Act::Reserve, Width::B8, base + 0x200);
@@ -240,7 +240,7 @@ fn reservations_end_by_the_writes_of_others(rt: HostRuntime) -> Result<(), Fail>
 
 #[test]
 fn a_refused_conditional_store_changes_no_memory(rt: HostRuntime) -> Result<(), Fail> {
-    let mut local = Local::new(Ram::new(rt.alloc(), 0x1_0000)?);
+    let mut local = Local::new(rt.alloc(), Ram::new(rt.alloc(), 0x1_0000)?, 8)?;
     let hart = HartNo::FIRST;
     let base = 0x8000_0200;
     access(&rt, &mut local, (0, Act::Reserve, Width::B8, base));
@@ -272,6 +272,25 @@ const RESERVING: [u32; 14] = [
     0xfe031ee3, 0x187e342f, 0x03040413, 0x00858023, 0x00ae03a3, 0x0000006f,
 ];
 
+/// Each hart lets the software and the timer interrupt in with its 10th event; its handler puts the low digit of the cause
+/// with its fourth instruction. Hart 0 raises the software interrupt of hart 1 with its 12th event, asks for the timer's at
+/// 64 with its 14th, and raises its own software interrupt with its 15th. Then both jump to themselves.
+const RAISING: [u32; 29] = [
+    0x00000297, 0x06028293, 0x30529073, 0x08800313, 0x30431073, 0x020003b7, 0x020046b7, 0x100005b7,
+    0x00100413, 0x30046073, 0x00051a63, 0x0083a223, 0x04000493, 0x0096b023, 0x0083a023, 0x0000006f,
+    0x00000013, 0x00000013, 0x00000013, 0x00000013, 0x00000013, 0x00000013, 0x00000013, 0x00000013,
+    0x342024f3, 0x00f4f493, 0x03048493, 0x00958023, 0x0000006f,
+];
+
+/// Entries in a row.
+#[derive(Clone, Copy)]
+enum Turn {
+    /// So many events of the hart with a number.
+    Events(u8, u32),
+    /// A tick.
+    Tick(u32),
+}
+
 /// The flat machine with two harts.
 fn two_harts(alloc: Global) -> Result<Machine, Memory>
     ensures { IfOk result (λ machine. (machine.ram ≡ 1_048_576) × IsValid machine) }
@@ -281,29 +300,67 @@ fn two_harts(alloc: Global) -> Result<Machine, Memory>
     Ok(machine)
 }
 
-#[test]
-fn harts_interleave_as_their_entries_say(rt: HostRuntime) -> Result<(), Fail> {
+/// What two harts put to the console when they make these entries with an image.
+fn console(
+    rt: &(impl AllocGlobal + Abort),
+    words: &[u32],
+    turns: &[Turn],
+) -> Result<Vec<u8>, Fail> {
     let mut image = Vec::new(rt.alloc());
-    for word in RESERVING {
+    for word in words {
         image.extend_from_slice(&word.to_le_bytes())?;
     }
     assert!(rt; image.len() <= 1_048_576);
-    // How many events of each hart, one after the other, and what hart 0 puts.
-    let rows: [(&[(u8, u32)], &str); 4] = [
-        (&[(0, 6), (1, 4), (0, 84)], "1"),
-        (&[(0, 6), (1, 3), (0, 84)], "0"),
-        (&[(1, 4), (0, 90)], "0"),
-        (&[(0, 87), (1, 4), (0, 3)], "1"),
-    ];
-    for (turns, text) in rows {
-        let mut monitor = Monitor::new(rt.alloc(), &two_harts(rt.alloc())?, &image)?;
-        for &(number, count) in turns {
-            let hart = HartNo::new(number).expect(&rt, "a hart");
-            for _ in 0..count {
-                assert!(rt; monitor.step(&Entry::Hart(hart)).is_ok());
+    let mut monitor = Monitor::new(rt.alloc(), &two_harts(rt.alloc())?, &image)?;
+    for &turn in turns {
+        let (entry, count) = match turn {
+            Turn::Events(number, count) => {
+                (Entry::Hart(HartNo::new(number).expect(rt, "a hart")), count)
             }
+            Turn::Tick(n) => (Entry::Tick(n), 1),
+        };
+        for _ in 0..count {
+            assert!(rt; monitor.step(&entry).is_ok());
         }
-        assert_eq!(rt; monitor.console(), text.as_bytes());
+    }
+    Ok(Vec::from_slice(rt.alloc(), monitor.console())?)
+}
+
+#[test]
+fn harts_interleave_as_their_entries_say(rt: HostRuntime) -> Result<(), Fail> {
+    use Turn::{Events, Tick};
+    let rows: [(&[u32], &[Turn], &str); 12] = [
+        (
+            &RESERVING,
+            &[Events(0, 6), Events(1, 4), Events(0, 84)],
+            "1",
+        ),
+        (
+            &RESERVING,
+            &[Events(0, 6), Events(1, 3), Events(0, 84)],
+            "0",
+        ),
+        (&RESERVING, &[Events(1, 4), Events(0, 90)], "0"),
+        (
+            &RESERVING,
+            &[Events(0, 87), Events(1, 4), Events(0, 3)],
+            "1",
+        ),
+        // The trap is the first event of hart 1 behind the store of hart 0, and the byte comes with the fifth.
+        (&RAISING, &[Events(1, 11), Events(0, 12), Events(1, 5)], "3"),
+        (&RAISING, &[Events(1, 11), Events(0, 12), Events(1, 4)], ""),
+        (&RAISING, &[Events(1, 16)], ""),
+        // It is the next event of hart 0 behind its own store.
+        (&RAISING, &[Events(0, 15), Events(0, 5)], "3"),
+        (&RAISING, &[Events(0, 19)], ""),
+        // It is the first event behind the tick that brings the time to 64, and not to 63.
+        (&RAISING, &[Events(0, 14), Tick(64), Events(0, 5)], "7"),
+        (&RAISING, &[Events(0, 14), Tick(63), Events(0, 5)], ""),
+        (&RAISING, &[Tick(64), Events(0, 19)], "7"),
+    ];
+    for (row, (words, turns, text)) in rows.into_iter().enumerate() {
+        let put = console(&rt, words, turns)?;
+        assert_eq!(rt; put.as_slice(), text.as_bytes(), "row {row}");
     }
     Ok(())
 }

@@ -1,4 +1,4 @@
--- What a hart reaches: guest memory, the debug port and the finisher.
+-- What a hart reaches: guest memory and the local ports.
 use Rattle.std.specs.Prelude.{ℕ, ◌%◌, ◌^◌, Bool, true, false, if◌then◌else◌, List, [], ◌∷◌, length, Option, Some, None}
 use Rattle.tv_base.specs.declared.Width.{Width}
 use Rattle.tv_base.specs.declared.Width.TheVariants.{B4}
@@ -13,7 +13,11 @@ use Rattle.tv_hart.specs.declared.place.Stored.{Stored}
 use Rattle.tv_hart.specs.declared.place.Stored.TheVariants as stored
 use Rattle.tv_hart.specs.Place.{Meaning}
 use Rattle.tv_intc.specs.declared.ending.Finish.{Finish}
+use Rattle.tv_intc.specs.Controller.{load_at as load_of_controller, store_at as store_to_controller}
+use Rattle.tv_intc.specs.ControllerState.{Controller}
 use Rattle.tv_intc.specs.Finisher.{finish_of}
+use Rattle.tv_intc.specs.Timer.{load_at as load_of_timer, store_at as store_to_timer}
+use Rattle.tv_intc.specs.TimerState.{Clock}
 use Rattle.tv_ram.specs.Memory.{loaded as number_in, number_at}
 use Rattle.tv_spec.specs.declared.Shown.TheVariants as shown
 use Rattle.tv_spec.specs.LocalState.{LocalState, with_reservation, written_by}
@@ -22,10 +26,12 @@ use Rattle.tv_spec.specs.Reservations.{granule, is_reserved, reserved_by}
 use Rattle.tv_isa.specs.declared.AmoOp.{AmoOp}
 use Rattle.tv_exec.specs.Atomic.{amo_of}
 
--- the ranges of addresses of a machine with so many bytes of memory: memory, and the ports
+-- the ranges of addresses of the local ports, and those of a machine with so many bytes of memory
 abbrev pub port_ranges : List Range
 port_ranges =
     record { base = 0x0010_0000; len = 4; target = target.Finisher }
+    ∷ record { base = 0x0200_0000; len = 0xC000; target = target.Timer }
+    ∷ record { base = 0x0C00_0000; len = 0x40_0000; target = target.Intc }
     ∷ record { base = 0x1000_0000; len = 1; target = target.Debug }
     ∷ []
 
@@ -45,25 +51,38 @@ abbrev pub after_finish : Reach → Option Finish → Reach
 after_finish p None = p
 after_finish p (Some finish) = record p { shown = shown.Finish finish }
 
--- a load of n bytes: memory gives the number there, a port gives 0; the other targets are not on the bus yet
-abbrev pub load_from : Reach → ℕ → ℕ → Option (Target × ℕ) → Loaded × Reach
-load_from p addr n None = (loaded.Nothing, p)
-load_from p addr n (Some (target.Ram, off)) = (loaded.Value (number_at p.local.ram addr n), p)
-load_from p addr n (Some (target.Finisher, off)) = (loaded.Value 0, p)
-load_from p addr n (Some (target.Debug, off)) = (loaded.Value 0, p)
-load_from p addr n (Some (target.Timer, off)) = (loaded.Nothing, p)
-load_from p addr n (Some (target.Intc, off)) = (loaded.Nothing, p)
-load_from p addr n (Some (target.Device device, off)) = (loaded.Nothing, p)
+-- the place with another timer block or interrupt controller
+abbrev pub with_timer : Reach → Clock → Reach
+with_timer p timer = record p { local = record p.local { timer = timer } }
 
--- a store: memory has the bytes, the debug port shows its byte, the finisher may end the run
+abbrev pub with_controller : Reach → Controller → Reach
+with_controller p intc = record p { local = record p.local { intc = intc } }
+
+-- a load from the interrupt controller by what that gives, which may be a claim
+abbrev pub after_controller_load : Reach → ℕ × Controller → Loaded × Reach
+after_controller_load p (value, intc) = (loaded.Value value, with_controller p intc)
+
+-- a load: memory gives the number there, a block its register, the finisher and the debug port 0; no device is on the bus yet
+abbrev pub load_from : Reach → Width → ℕ → Option (Target × ℕ) → Loaded × Reach
+load_from p width addr None = (loaded.Nothing, p)
+load_from p width addr (Some (target.Ram, off)) = (loaded.Value (number_at p.local.ram addr (width_bytes width)), p)
+load_from p width addr (Some (target.Finisher, off)) = (loaded.Value 0, p)
+load_from p width addr (Some (target.Timer, off)) = (loaded.Value (load_of_timer p.local.timer off width), p)
+load_from p width addr (Some (target.Intc, off)) = after_controller_load p (load_of_controller p.local.intc off width)
+load_from p width addr (Some (target.Debug, off)) = (loaded.Value 0, p)
+load_from p width addr (Some (target.Device device, off)) = (loaded.Nothing, p)
+
+-- a store: memory has the bytes, a block its register, the debug port shows its byte, the finisher may end the run
 abbrev pub store_to : Reach → ℕ → Width → ℕ → ℕ → Option (Target × ℕ) → Stored × Reach
 store_to p hart width addr value None = (stored.Nothing, p)
 store_to p hart width addr value (Some (target.Ram, off)) =
     (stored.Done, record p { local = written_by p.local hart addr (width_bytes width) value })
 store_to p hart width addr value (Some (target.Finisher, off)) = (stored.Done, after_finish p (finish_by width value))
+store_to p hart width addr value (Some (target.Timer, off)) =
+    (stored.Done, with_timer p (store_to_timer p.local.timer off width value))
+store_to p hart width addr value (Some (target.Intc, off)) =
+    (stored.Done, with_controller p (store_to_controller p.local.intc off width value))
 store_to p hart width addr value (Some (target.Debug, off)) = (stored.Done, record p { shown = shown.Byte (value % 2 ^ 8) })
-store_to p hart width addr value (Some (target.Timer, off)) = (stored.Nothing, p)
-store_to p hart width addr value (Some (target.Intc, off)) = (stored.Nothing, p)
 store_to p hart width addr value (Some (target.Device device, off)) = (stored.Nothing, p)
 
 -- AMO, LR and SC of a hart, by the number in memory; they reach memory alone
@@ -90,7 +109,7 @@ after_conditional p hart width addr value (Some old) =
 abbrev pub local_meaning : Meaning Reach
 local_meaning = record {
   fetch = λ p addr. number_in p.local.ram addr 4;
-  load = λ p hart width addr. load_from p addr (width_bytes width) (target_at p addr (width_bytes width));
+  load = λ p hart width addr. load_from p width addr (target_at p addr (width_bytes width));
   store = λ p hart width addr value. store_to p hart width addr value (target_at p addr (width_bytes width));
   amo = λ p hart width addr op value.
       after_amo p hart width addr op value (number_in p.local.ram addr (width_bytes width));

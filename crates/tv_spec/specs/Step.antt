@@ -1,5 +1,5 @@
 -- One step of the in-process monitor, by cases: where it may stand, and what it makes of the state.
-use Rattle.std.specs.Prelude.{◌≡◌, ◌≢◌, ◌==◌, ℕ, ◌+◌, ◌%◌, ◌^◌, ◌<◌, if◌then◌else◌, Bool, true, false, Option, Some, None}
+use Rattle.std.specs.Prelude.{◌≡◌, ◌≢◌, ◌==◌, ℕ, ◌+◌, ◌<◌, if◌then◌else◌, Bool, true, false, Option, Some, None}
 use Rattle.tv_base.specs.declared.Why.{Why}
 use Rattle.tv_base.specs.declared.Why.TheVariants as why
 use Rattle.tv_hart.specs.Hart.{Outcome, stepped}
@@ -12,7 +12,7 @@ use Rattle.tv_spec.specs.declared.Mode.TheVariants as mode
 use Rattle.tv_spec.specs.declared.Shown.{Shown}
 use Rattle.tv_spec.specs.declared.Shown.TheVariants as shown
 use Rattle.tv_spec.specs.Local.{local_meaning}
-use Rattle.tv_spec.specs.LocalState.{lines_of}
+use Rattle.tv_spec.specs.LocalState.{after_tick, lines_of}
 use Rattle.tv_spec.specs.Reach.{Reach}
 use Rattle.tv_spec.specs.Setup.{Setup}
 use Rattle.tv_spec.specs.State.{State}
@@ -84,5 +84,5 @@ done setup s (made (entry.Hart hart)) = record s {
   events = s.events + 1;
   ticked = false;
 }
-done setup s (made (entry.Tick n)) = record s { time = (s.time + n) % 2 ^ 64; ticked = true }
+done setup s (made (entry.Tick n)) = record s { local = after_tick s.local n; ticked = true }
 done setup s (ended cause) = record s { mode = mode.Ending cause }

@@ -15,7 +15,7 @@ pub enum Mode {
     Ending(Why),
 }
 
-/// What an event of a hart showed outside memory.
+/// What an event of a hart showed outside the machine.
 #[derive(Clone, Copy)]
 pub enum Shown {
     /// Nothing.

@@ -115,7 +115,7 @@ fn run(rt: &impl AllocGlobal, image: &[u8]) -> Result<Answer, Fail> {
 #[test]
 fn images_end_as_their_words_say(rt: HostRuntime) -> Result<(), Fail> {
     // Each image by its words, with the status, the output and the line.
-    let rows: [(&[u32], u8, &str, &str); 7] = [
+    let rows: [(&[u32], u8, &str, &str); 8] = [
         (
             &[
                 0x100002b7, 0x04100313, 0x00628023, 0x001002b7, 0x00005337, 0x55530313, 0x0062a023,
@@ -155,6 +155,18 @@ fn images_end_as_their_words_say(rt: HostRuntime) -> Result<(), Fail> {
             ],
             0,
             "A",
+            "",
+        ),
+        // The timer is to interrupt at 64, the time after one round; the handler puts the low digit of the cause.
+        (
+            &[
+                0x00000297, 0x03828293, 0x30529073, 0x04000493, 0x020046b7, 0x0096b023, 0x08000313,
+                0x30431073, 0x30046073, 0x0000006f, 0x00000013, 0x00000013, 0x00000013, 0x00000013,
+                0x342024f3, 0x00f4f493, 0x03048493, 0x100005b7, 0x00958023, 0x001005b7, 0x00005637,
+                0x55560613, 0x00c5a023,
+            ],
+            0,
+            "7",
             "",
         ),
     ];

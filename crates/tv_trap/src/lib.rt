@@ -6,9 +6,9 @@
 //! of registers, and `specs/Traps.antt` the rest.
 #![tactic(auto)]
 
-ghost use Rattle.std.specs.Prelude.{◌≡◌, ◌<◌, ◌%◌, is_some, unwrap_or};
+ghost use Rattle.std.specs.Prelude.{◌≡◌, ◌<◌, ◌%◌, None, if◌then◌else◌, is_some, unwrap_or};
 ghost use Rattle.tv_trap.specs.Registers.{aligned, csr_read, csr_write, is_set, mstatus, value_of, with_value};
-ghost use Rattle.tv_trap.specs.Traps.{counted, first_csrs, pending_interrupt, trap_entry, trap_return};
+ghost use Rattle.tv_trap.specs.Traps.{counted, first_csrs, first_interrupt, pending_interrupt, trap_entry, trap_return};
 
 mod registers;
 
@@ -230,7 +230,18 @@ impl Csrs {
         ensures { result ≡ pending_interrupt self.now lines }
     {
         let up = self.mie & lines;
-        if !self.mstatus_mie || up == 0 {
+        if up == 0 {
+            return None;
+        }
+        self.first_of(up)
+    }
+
+    /// The cause of the first of these interrupts; `None` where MIE is 0 or none of them is one.
+    #[cold]
+    fn first_of(&self, up: u64) -> Option<u64>
+        ensures { result ≡ if self.now.mstatus_mie then first_interrupt up else None }
+    {
+        if !self.mstatus_mie {
             None
         } else if is_bit_set(up, EXTERNAL) {
             Some(IS_INTERRUPT + u64::from(EXTERNAL))

@@ -3,4 +3,4 @@ use Rattle.tv_model.proofs.burst.run_events.Given as goal
 
 -- the events so far
 abbrev pub invariant-loop-made : goal.invariant-loop-made
-invariant-loop-made l = IsAlong l.fn.hart l.hart l.fn.local l.local l.most l.made
+invariant-loop-made l = IsAlong l.number l.fn.hart l.hart l.fn.local l.local l.most l.made

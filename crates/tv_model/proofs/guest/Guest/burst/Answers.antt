@@ -7,7 +7,7 @@ pub returns : goal.returns
 returns c =
     let running : c.self.inside.mode ≡ mode.Running = c.is_running.ensures.0 c.if-not-is_running.false in
     rw (← c.self.view_is)
-    (burst-made c.self.inside.harts.items c.self.inside.local c.run_events-made.new.local c.self.inside.time c.self.inside.mode c.mode_after-self-inside.result c.self.inside.events
+    (burst-made c.self.inside.harts.items c.self.inside.local c.run_events-made.new.local c.self.inside.mode c.mode_after-self-inside.result c.self.inside.events
     c.self.inside.ticked c.self.inside.steps c.args.hart c.from-number.result c.args.most c.min.result c.run_events-made.result.0 c.index_mut.result.now c.run_events-made.new.hart c.run_events-made.result.1
     running (c.self.invariant.within running) (omega arith) (c.from-number.ensures ∙ c.get.ensures.number) c.index_mut.ensures.value c.min.ensures
     c.run_events-made.ensures.burst c.run_events-made.ensures.quiet c.run_events-made.ensures.few c.run_events-made.ensures.all c.if-made-eq0.false c.mode_after-self-inside.ensures)
