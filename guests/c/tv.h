@@ -36,6 +36,24 @@ static inline __attribute__((noreturn)) void tv_fail(unsigned short code)
     tv_finish((unsigned int)code << 16 | 0x3333);
 }
 
+/* The software interrupt of a hart in the timer block: up while bit 0 is set. */
+static inline volatile unsigned int *tv_msip(unsigned long hart)
+{
+    return (volatile unsigned int *)(0x02000000UL + 4 * hart);
+}
+
+/* The time from which on the timer interrupt of a hart is up; all ones at the start. */
+static inline volatile unsigned long *tv_mtimecmp(unsigned long hart)
+{
+    return (volatile unsigned long *)(0x02004000UL + 8 * hart);
+}
+
+/* The time, which all harts have in common. */
+static inline unsigned long tv_mtime(void)
+{
+    return *(volatile unsigned long *)0x0200bff8UL;
+}
+
 /* Reads a control and status register by its name, as READ_CSR(mcause). */
 #define READ_CSR(name)                                    \
     ({                                                    \
@@ -46,5 +64,8 @@ static inline __attribute__((noreturn)) void tv_fail(unsigned short code)
 
 /* Writes a control and status register by its name, as WRITE_CSR(mtvec, handler). */
 #define WRITE_CSR(name, value) asm volatile("csrw " #name ", %0" : : "r"(value) : "memory")
+
+/* Sets bits of a control and status register and leaves the others, as SET_CSR(mstatus, 8). */
+#define SET_CSR(name, bits) asm volatile("csrs " #name ", %0" : : "r"(bits) : "memory")
 
 #endif

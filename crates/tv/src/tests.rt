@@ -6,17 +6,7 @@ use super::*;
 use std::process::Abort;
 use std::test::Fail;
 use std::{fs, process};
-
-/// The image that prints `A` and switches off.
-const HELLO: [u8; 28] = [
-    0xb7, 0x02, 0x00, 0x10, 0x13, 0x03, 0x10, 0x04, 0x23, 0x80, 0x62, 0x00, 0xb7, 0x02, 0x10, 0x00,
-    0x37, 0x53, 0x00, 0x00, 0x13, 0x03, 0x53, 0x55, 0x23, 0xa0, 0x62, 0x00,
-];
-
-/// The file of its journal: seven events of hart 0.
-const HELLO_JOURNAL: [u8; 15] = [
-    b'T', b'V', b'J', b'1', 0x01, 0, 7, 0, 0, 0, 0x00, 1, 0, 0, 0,
-];
+use tv_fake::first_run::{IMAGE, JOURNAL, OUTPUT};
 
 /// A path of this process's own for a temporary file of a test.
 fn path(rt: &HostRuntime, test: &str, name: &str) -> Result<String, Fail> {
@@ -73,7 +63,7 @@ fn expect(rt: &impl Abort, answer: &Answer, status: u8, out: &str, err: &str) {
 fn journals_go_to_their_file_and_are_replayed(rt: HostRuntime) -> Result<(), Fail> {
     let image = path(&rt, "hello", "image")?;
     let journal = path(&rt, "hello", "journal")?;
-    fs::write(&rt, &image, HELLO.as_slice())?;
+    fs::write(&rt, &image, IMAGE.as_slice())?;
     // What the file held before is gone.
     fs::write(&rt, &journal, [7; 4096].as_slice())?;
     let ran = serve(&rt, "hello", &["flat", &image, "--journal", &journal])?;
@@ -81,8 +71,8 @@ fn journals_go_to_their_file_and_are_replayed(rt: HostRuntime) -> Result<(), Fai
     let unwritten = serve(&rt, "hello", &["flat", "--journal=/", &image])?;
     let saved = taken(&rt, &journal)?;
     fs::remove_file(&rt, &image)?;
-    expect(&rt, &ran, 0, "A", "");
-    assert_eq!(rt; saved.as_slice(), HELLO_JOURNAL.as_slice());
+    expect(&rt, &ran, 0, OUTPUT, "");
+    assert_eq!(rt; saved.as_slice(), JOURNAL.as_slice());
     let line = "legal: 1 records, 7 events, status 0\n";
     expect(&rt, &replayed, 0, line, "");
     expect(&rt, &unwritten, 5, "", "tv: cannot write\n");
@@ -124,5 +114,32 @@ fn guests_print_what_their_texts_say(rt: HostRuntime) -> Result<(), Fail> {
         fs::remove_file(&rt, &path)?;
         expect(&rt, &ran, 0, text, "");
     }
+    Ok(())
+}
+
+#[test]
+fn the_example_machine_is_checked_run_and_replayed(rt: HostRuntime) -> Result<(), Fail> {
+    let image = path(&rt, "harts", "image")?;
+    let machine = path(&rt, "harts", "machine")?;
+    let journal = path(&rt, "harts", "journal")?;
+    fs::write(&rt, &image, images::TWO_HARTS)?;
+    let named = images::TWO_HARTS_TOML.split_once("guests/two_harts/two_harts.bin");
+    let Some((before, after)) = named else {
+        return Err(Fail::from("the machine file doesn't name its image"));
+    };
+    let text = format!(in rt.alloc(); "{before}{}{after}", image.as_str())?;
+    fs::write(&rt, &machine, text.as_bytes())?;
+    let checked = serve(&rt, "harts", &["check", &machine])?;
+    let ran = serve(&rt, "harts", &["solo", &machine, "--journal", &journal])?;
+    let again = serve(&rt, "harts", &["solo", &machine])?;
+    let replayed = serve(&rt, "harts", &["replay", &machine, &journal])?;
+    for path in [&image, &machine, &journal] {
+        fs::remove_file(&rt, path)?;
+    }
+    expect(&rt, &checked, 0, "ok\n", "");
+    expect(&rt, &ran, 0, images::TWO_HARTS_TEXT, "");
+    expect(&rt, &again, 0, images::TWO_HARTS_TEXT, "");
+    assert_eq!(rt; replayed.status, 0);
+    assert!(rt; replayed.out.starts_with(b"legal: ") && replayed.out.ends_with(b", status 0\n"));
     Ok(())
 }

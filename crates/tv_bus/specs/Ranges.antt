@@ -2,6 +2,7 @@
 use Rattle.std.specs.Prelude.{◌==◌, ◌&&◌, ℕ, ◌+◌, ◌-◌, ◌≤◌, ◌<◌, if◌then◌else◌, nat_le, nat_lt, max, min, Bool}
 use Rattle.std.specs.List.{list_any}
 use Rattle.std.specs.Prelude.{List, [], ◌∷◌, length, Option, Some, None}
+use Rattle.tv_base.specs.declared.limits.TheConstants.{BUS_RANGES}
 use Rattle.tv_bus.specs.declared.ranges.Range.{Range}
 use Rattle.tv_bus.specs.declared.BusError.{BusError}
 use Rattle.tv_bus.specs.declared.BusError.TheVariants as error
@@ -30,7 +31,7 @@ abbrev pub refusal : List Range → ℕ → ℕ → Option BusError
 refusal ranges base len =
     if len == 0 then Some error.Empty
     else if overlaps ranges base len then Some error.Overlap
-    else if nat_le 64 (length ranges) then Some error.TooMany
+    else if nat_le BUS_RANGES (length ranges) then Some error.TooMany
     else None
 
 -- an address lies in a range

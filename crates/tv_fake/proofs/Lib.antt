@@ -3,3 +3,4 @@ pub mod Places
 pub mod Zero
 pub mod Views
 pub mod Raised
+pub mod Openings

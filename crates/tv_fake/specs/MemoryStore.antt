@@ -1,7 +1,7 @@
 -- What a store in memory tells.
 use Rattle.std.specs.Prelude.{◌≡◌, ℕ, List, Some, IsSome, IfSome, String, map}
 use Rattle.std.specs.String.{string_bytes}
-use Rattle.tv_out.specs.Told.{ToldStore, Files}
+use Rattle.tv_out.specs.Told.{ToldStore, StoreScript, Files}
 use Rattle.tv_out.specs.Shelf.{first_named}
 use Rattle.tv_fake.specs.declared.store.MemoryStore.{MemoryStore}
 use Rattle.tv_fake.specs.declared.store.Objects.{Objects}
@@ -13,17 +13,21 @@ use Rattle.tv_fake.specs.Tally.{faults_by_name}
 abbrev pub files_of : Objects → Files
 files_of objects = Some (λ name. first_named name (shelf_of (λ bytes. bytes.items) objects.files.items))
 
+-- how its calls will fail, and what it is still to give
+abbrev pub script_of : MemoryStore → StoreScript
+script_of store = record {
+  calls = store.calls;
+  disks = shelf_of opened_disk store.objects.disks.items;
+  sinks = shelf_of created_sink store.objects.sinks.items;
+  sources = shelf_of opened_source store.objects.sources.items;
+}
+
 abbrev pub told_by : MemoryStore → ToldStore
 told_by store = record {
   files = files_of store.objects;
   faults = store.tally.total;
   name_faults = Some (faults_by_name store.tally);
-  script = Some (record {
-    calls = store.calls;
-    disks = shelf_of opened_disk store.objects.disks.items;
-    sinks = shelf_of created_sink store.objects.sinks.items;
-    sources = shelf_of opened_source store.objects.sources.items;
-  });
+  script = Some (script_of store);
 }
 
 -- what a store tells before its first call: the counts of these names stand at 0, and it has these objects to give

@@ -63,14 +63,12 @@ impl MemoryDisk {
         }) }
     {
         let sectors = bytes.len() / SECTOR_BYTES;
-        let mut content = match Vec::with_capacity(alloc, SECTOR_BYTES * room as usize) {
-            Ok(content) => content,
-            Err(_) => return Err(Memory),
-        };
-        match content.extend_from_slice(&bytes[..SECTOR_BYTES * sectors]) {
-            Ok(()) => {}
-            Err(_) => return Err(Memory),
-        }
+        let mut content = Vec::with_capacity(alloc, SECTOR_BYTES * room as usize).map_err(
+            |_| Memory,
+        )?;
+        content
+            .extend_from_slice(&bytes[..SECTOR_BYTES * sectors])
+            .map_err(|_| Memory)?;
         Ok(MemoryDisk {
             bytes: content,
             sectors: sectors as u32,

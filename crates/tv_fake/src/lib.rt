@@ -8,6 +8,7 @@ mod copy;
 mod counter;
 mod disk;
 mod entropy;
+pub mod first_run;
 mod shelf;
 mod sink;
 mod source;

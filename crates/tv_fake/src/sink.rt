@@ -43,15 +43,12 @@ impl MemorySink {
           script = Some (record { calls = record { made = 0; failing = failing.items }; room = room });
         }) }
     {
-        match Vec::with_capacity(alloc, room) {
-            Ok(bytes) => Ok(MemorySink {
-                bytes,
-                room,
-                calls: Counter::new(failing),
-                faults: 0,
-            }),
-            Err(_) => Err(Memory),
-        }
+        Ok(MemorySink {
+            bytes: Vec::with_capacity(alloc, room).map_err(|_| Memory)?,
+            room,
+            calls: Counter::new(failing),
+            faults: 0,
+        })
     }
 
     /// Begins again: no byte was put, no call was made.

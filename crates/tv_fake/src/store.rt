@@ -68,13 +68,9 @@ impl MemoryStore {
     ) -> Result<MemoryStore, Memory>
         ensures { IfOk result (λ store. IsNewStore names.items objects failing.items (told_by store)) }
     {
-        let tally = match Tally::new(alloc, names) {
-            Ok(tally) => tally,
-            Err(memory) => return Err(memory),
-        };
         Ok(MemoryStore {
             objects,
-            tally,
+            tally: Tally::new(alloc, names)?,
             calls: Counter::new(failing),
         })
     }
@@ -116,55 +112,40 @@ impl Store for MemoryStore {
         if bytes.len() > most {
             return Err(LoadFault::TooLong);
         }
-        match Vec::from_slice(alloc, bytes) {
-            Ok(bytes) => Ok(bytes),
-            Err(_) => Err(LoadFault::Memory),
-        }
+        Vec::from_slice(alloc, bytes).map_err(|_| LoadFault::Memory)
     }
 
     fn open_disk(&mut self, name: &str, _readonly: bool) -> Result<MemoryDisk, Failed> {
-        match give(
+        let mut disk = give(
             &mut self.calls,
             &mut self.tally,
             &mut self.objects.disks,
             name,
-        ) {
-            Ok(mut disk) => {
-                disk.restart();
-                Ok(disk)
-            }
-            Err(failed) => Err(failed),
-        }
+        )?;
+        disk.restart();
+        Ok(disk)
     }
 
     fn create(&mut self, name: &str) -> Result<MemorySink, Failed> {
-        match give(
+        let mut sink = give(
             &mut self.calls,
             &mut self.tally,
             &mut self.objects.sinks,
             name,
-        ) {
-            Ok(mut sink) => {
-                sink.restart();
-                Ok(sink)
-            }
-            Err(failed) => Err(failed),
-        }
+        )?;
+        sink.restart();
+        Ok(sink)
     }
 
     fn open_source(&mut self, name: &str) -> Result<MemorySource, Failed> {
-        match give(
+        let mut source = give(
             &mut self.calls,
             &mut self.tally,
             &mut self.objects.sources,
             name,
-        ) {
-            Ok(mut source) => {
-                source.restart();
-                Ok(source)
-            }
-            Err(failed) => Err(failed),
-        }
+        )?;
+        source.restart();
+        Ok(source)
     }
 }
 

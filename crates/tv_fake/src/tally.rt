@@ -29,10 +29,7 @@ impl Tally {
     {
         let mut counts = Vec::new(alloc);
         for name in names {
-            match counts.push(Named::new(name, 0)) {
-                Ok(()) => {}
-                Err(_) => return Err(Memory),
-            }
+            counts.push(Named::new(name, 0)).map_err(|_| Memory)?;
         }
         Ok(Tally {
             counts,

@@ -3,7 +3,7 @@
 use super::*;
 use std::test::Fail;
 use tv_base::Failed;
-use tv_out::{Disk, Entropy, LoadFault, Short, Sink, Source, Store};
+use tv_out::{Disk, Entropy, LoadFault, Short, Sink, Source, Store, put_all};
 
 /// A list of the system's allocator.
 fn list<T: Copy>(rt: &impl AllocGlobal, items: &[T]) -> Result<Vec<T>, Fail> {
@@ -23,6 +23,31 @@ fn a_sink_takes_what_fits(rt: HostRuntime) -> Result<(), Fail> {
     }
     assert_eq!(rt; sink.as_slice(), b"hellowor".as_slice());
     assert_eq!(rt; sink.faults(), 3);
+    Ok(())
+}
+
+/// How much of 5000 bytes goes out, of which the put with this number fails, and how many faults the sink counts then.
+fn taken_of_5000(
+    rt: &impl AllocGlobal,
+    room: usize,
+    failing: u64,
+) -> Result<(Result<(), Failed>, usize, u64), Fail> {
+    let mut sink = MemorySink::new(rt.alloc(), room, list(rt, &[failing])?)?;
+    let answer = put_all(&mut sink, &[7; 5000]);
+    Ok((answer, sink.as_slice().len(), sink.faults()))
+}
+
+#[test]
+fn bytes_go_out_in_pieces_up_to_a_failure(rt: HostRuntime) -> Result<(), Fail> {
+    for (room, failing, went) in [
+        (5000, 2, (Ok(()), 5000, 0)),
+        (5000, 1, (Err(Failed), 4096, 1)),
+        (5000, 0, (Err(Failed), 0, 1)),
+        (4999, 2, (Err(Failed), 4999, 1)),
+        (4095, 2, (Err(Failed), 4095, 1)),
+    ] {
+        assert_eq!(rt; taken_of_5000(&rt, room, failing)?, went);
+    }
     Ok(())
 }
 

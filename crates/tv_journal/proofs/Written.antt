@@ -1,6 +1,6 @@
 -- Bytes that are gathered in a piece and put when it is full.
 use Rattle.std.proofs.Common.{◌≡◌, ℕ, suc, ◌<◌, ◌≤◌, List, [], ◌∷◌, ◌++◌, Option, Result, Ok, Err, OnOk, OnErr, length, get_or, take, drop, refl, ap, sym, ◌∙◌, subst, append_assoc, append-nil, drop-cons, arith}
-use Rattle.std.specs.Prelude.{⊤, flat_map}
+use Rattle.std.specs.Prelude.{⊤, IsErr, flat_map}
 use Rattle.std.specs.Option.{option_map}
 use Rattle.std.proofs.lemmas.Grind.{flat_map-append}
 use Rattle.std.proofs.lemmas.List.{take-append-drop}
@@ -8,6 +8,7 @@ use Rattle.tv_out.specs.declared.Short.{Short}
 use Rattle.tv_out.specs.Calls.{after_call}
 use Rattle.tv_out.specs.Told.{ToldSink, FollowsPut, FellShort, appended}
 use Rattle.tv_out.proofs.Appended.{appended-twice, appended-nil}
+use Rattle.tv_out.proofs.Pieces.{steady_put, steady-same, steady-on}
 use Rattle.tv_journal.specs.declared.record.Record.{Record}
 use Rattle.tv_journal.specs.Grammar.{record_bytes}
 use Rattle.tv_journal.specs.Writing.{IsWriting, IsAllPut, IsPartPut, WritesOn, EndsIn, PutGives}
@@ -21,6 +22,7 @@ writing-none start = record {
   told = sym (appended-nil start.bytes);
   goes_on = goes-none start.script;
   was_room = λ some. let none : 0 < 0 = some in absurd (omega arith);
+  steady = steady-same start;
 }
 
 -- the piece went out
@@ -33,6 +35,7 @@ writing-put written start old new piece done so_far some fits told script follow
   goes_on = goes-next start.script old.script new.script old.bytes so_far.put piece old.faults new.faults done so_far.goes_on script some fits follows;
   was_room = λ _. room-next start.script old.script start.bytes so_far.put piece old.faults new.faults done so_far.goes_on some fits
       (subst (λ (t : Option (List ℕ)). FollowsPut old.script t (length piece) old.faults new.faults (Ok done)) so_far.told follows);
+  steady = steady-on start old new so_far.steady (steady_put (length piece) old new done follows script);
 }
 
 -- the piece went out in part
@@ -71,7 +74,7 @@ pub writing-all : (written : List ℕ) (start now : ToldSink) → 0 < length wri
 writing-all written start now some so_far =
     let same : so_far.put ≡ written = sym (append-nil so_far.put) ∙ sym so_far.parts in
     subst (λ (xs : List ℕ). IsAllPut xs start now) same
-    (record { told = so_far.told; was_room = so_far.was_room (subst (λ (xs : List ℕ). 0 < length xs) (sym same) some) })
+    (record { told = so_far.told; steady = so_far.steady; was_room = so_far.was_room (subst (λ (xs : List ℕ). 0 < length xs) (sym same) some) })
 
 -- a record, with those before it and behind it
 pub bytes-at : (rs : List Record) (i : ℕ) (r : Record) → i < length rs → r ≡ get_or rs i r
@@ -112,6 +115,15 @@ written-whole bytes old new some writes = writing-all bytes old new some (writes
 
 pub cut-whole : (bytes : List ℕ) (old new : ToldSink) → EndsIn bytes old [] new → IsPartPut bytes old new
 cut-whole bytes old new ends = ends old [] (writing-none old)
+
+-- what holds at an error that is returned as it came
+pub at-err : {P : Type 0} (r : Result ⊤ Short) → P → OnErr r P
+at-err (Ok _) holds = tt
+at-err (Err _) holds = holds
+
+pub gives-cut : (r : Result ⊤ Short) (bytes : List ℕ) (old new : ToldSink) → IsErr r → IsPartPut bytes old new → PutGives r bytes old new
+gives-cut (Ok _) bytes old new is cut = absurd (cc is)
+gives-cut (Err _) bytes old new is cut = cut
 
 -- what follows from what an error says
 pub on-err : (P Q : Type 0) (r : Result ⊤ Short) → (P → Q) → OnErr r P → OnErr r Q

@@ -2,7 +2,7 @@
 use Rattle.std.specs.Prelude.{◌≡◌, ◌⊎◌, ℕ, ◌+◌, ◌-◌, ◌*◌, ◌^◌, ◌<◌, ◌≤◌, ◌++◌, List, length, Option, Some, None, Result, Ok, Err, ⊤}
 use Rattle.tv_base.specs.declared.Why.{Why}
 use Rattle.tv_out.specs.Calls.{RoomScript, IsFailing, calls_ahead}
-use Rattle.tv_out.specs.Told.{ToldSink, appended, IsCut, WasRoom, FellShort}
+use Rattle.tv_out.specs.Told.{ToldSink, appended, IsCut, IsSteady, WasRoom, FellShort}
 use Rattle.tv_journal.specs.declared.Entry.{Entry}
 use Rattle.tv_journal.specs.Grammar.{SpellsJournal}
 
@@ -33,10 +33,12 @@ pub record IsWriting (written : List ℕ) (start now : ToldSink) (piece : List �
   pub told : now.bytes ≡ appended start.bytes put
   pub goes_on : GoesOn start.script now.script (length put)
   pub was_room : 0 < length put → WasRoom start.script start.bytes (length put)
+  pub steady : IsSteady start now
 
--- all of these bytes went out
+-- all of these bytes went out, and no put failed
 pub record IsAllPut (bytes : List ℕ) (old new : ToldSink) : Type 0 where
   pub told : new.bytes ≡ appended old.bytes bytes
+  pub steady : IsSteady old new
   pub was_room : WasRoom old.script old.bytes (length bytes)
 
 -- a front of these bytes went out, since the sink failed

@@ -2,6 +2,7 @@
 #![tactic(auto)]
 
 ghost use Rattle.std.specs.Prelude.{◌≡◌, ◌≢◌, ℕ, ◌+◌, ◌<◌, ◌-◌, ◌^◌, List, [], Option, None, Err, IfOk, length, replicate};
+ghost use Rattle.std.specs.Result.{is_err};
 ghost use Rattle.tv_base.specs.declared.Why.{Why};
 ghost use Rattle.tv_out.specs.Faults.{HasCause};
 ghost use Rattle.tv_journal.specs.declared.Entry.{Entry};
@@ -45,18 +46,17 @@ pub struct Journal {
 }
 
 impl Model for Journal {
-    ghost use Rattle.std.specs.Prelude.{vec_capacity};
     ghost use Rattle.tv_journal.specs.Journals.{JournalState};
 
     ghost Value = { JournalState };
 
     ghost use Rattle.tv_journal.specs.Entries.{entries_of};
     ghost use Rattle.tv_journal.specs.Grammar.{outer_of};
-    ghost use Rattle.tv_journal.specs.Journals.{IsKept};
+    ghost use Rattle.tv_journal.specs.JournalFields.{IsJournal};
 
     ghost view = { λ j. record { entries = entries_of j.records.items; outer = outer_of j.end; record_room = j.record_room; payload_room = j.payload_room } };
 
-    ghost invariant = { λ j. IsKept j.records.items j.end j.events j.record_room (vec_capacity j.records) };
+    ghost invariant = { IsJournal };
 }
 
 /// Why bytes were not read as a journal file.
@@ -83,22 +83,17 @@ impl Model for Cursor {
 }
 
 impl Journal {
-    /// An empty journal with room for so many records, and for so many bytes that records carry.
+    /// An empty journal with room for so many records, and for so many bytes that records carry. Memory for both is taken
+    /// here.
     ///
     /// # Errors
     /// Want of memory.
     pub fn new(alloc: Global, entries: u32, bytes: u32) -> Result<Journal, Memory>
         ensures { IfOk result (λ journal. journal ≡ record { entries = []; outer = None; record_room = entries; payload_room = bytes }) }
     {
-        let Ok(records) = Vec::with_capacity(alloc, entries as usize) else {
-            return Err(Memory);
-        };
-        let Ok(payload) = Vec::with_capacity(alloc, bytes as usize) else {
-            return Err(Memory);
-        };
         Ok(Journal {
-            records,
-            payload,
+            records: Vec::with_capacity(alloc, entries as usize).map_err(|_| Memory)?,
+            payload: Vec::with_capacity(alloc, bytes as usize).map_err(|_| Memory)?,
             end: None,
             events: 0,
             record_room: entries,
@@ -219,7 +214,7 @@ impl Journal {
     /// `Short` where the sink failed. A front of the file went out then.
     pub fn write_file<K: Sink>(&self, sink: &mut K) -> Result<(), Short>
         ensures saved { IsSaved result self.now.entries self.now.outer (K.told sink.old) (K.told sink.new) }
-        ensures cause { HasCause (K.told sink.old).faults (K.told sink.new).faults result }
+        ensures cause { HasCause (K.told sink.old).faults (K.told sink.new).faults (is_err result) }
     {
         write_lines(sink, &self.records, self.end)
     }

@@ -1,6 +1,7 @@
 //! The writer of a journal file: its bytes are gathered in a piece, which is put when it is full.
 
 ghost use Rattle.std.specs.Prelude.{◌≡◌, ◌≢◌, ◌≤◌, [], Some, None, OnOk, OnErr, length, flat_map};
+ghost use Rattle.std.specs.Result.{is_err};
 ghost use Rattle.tv_out.specs.Faults.{HasCause};
 ghost use Rattle.tv_journal.specs.Grammar.{AreLines, EndFits, record_bytes, end_bytes, cause_byte, lines_bytes, closing_bytes, file_bytes};
 ghost use Rattle.tv_journal.specs.Writing.{WritesOn, EndsIn, PutGives};
@@ -18,15 +19,12 @@ pub fn put_piece<K: Sink>(sink: &mut K, piece: &mut Piece) -> Result<(), Short>
     ensures empty { OnOk result (piece.new.items ≡ []) }
     ensures ok { OnOk result (WritesOn [] (K.told sink.old) piece.old.items (K.told sink.new) []) }
     ensures err { OnErr result (EndsIn [] (K.told sink.old) piece.old.items (K.told sink.new)) }
-    ensures cause { HasCause (K.told sink.old).faults (K.told sink.new).faults result }
+    ensures cause { HasCause (K.told sink.old).faults (K.told sink.new).faults (is_err result) }
 {
     if piece.is_empty() {
         return Ok(());
     }
-    match sink.put(piece) {
-        Ok(()) => {}
-        Err(short) => return Err(short),
-    }
+    sink.put(piece)?;
     piece.clear();
     Ok(())
 }
@@ -36,13 +34,10 @@ pub fn write_bytes<K: Sink>(sink: &mut K, piece: &mut Piece, bytes: &[u8]) -> Re
     requires fits { length bytes.now ≤ 4096 }
     ensures ok { OnOk result (WritesOn bytes.now (K.told sink.old) piece.old.items (K.told sink.new) piece.new.items) }
     ensures err { OnErr result (EndsIn bytes.now (K.told sink.old) piece.old.items (K.told sink.new)) }
-    ensures cause { HasCause (K.told sink.old).faults (K.told sink.new).faults result }
+    ensures cause { HasCause (K.told sink.old).faults (K.told sink.new).faults (is_err result) }
 {
     if piece.len() + bytes.len() > PIECE_BYTES {
-        match put_piece(sink, piece) {
-            Ok(()) => {}
-            Err(short) => return Err(short),
-        }
+        put_piece(sink, piece)?;
     }
     match piece.try_extend_from_slice(bytes) {
         Ok(()) => Ok(()),
@@ -92,13 +87,10 @@ pub fn write_records<K: Sink>(
 ) -> Result<(), Short>
     ensures ok { OnOk result (WritesOn (flat_map record_bytes records.now) (K.told sink.old) piece.old.items (K.told sink.new) piece.new.items) }
     ensures err { OnErr result (EndsIn (flat_map record_bytes records.now) (K.told sink.old) piece.old.items (K.told sink.new)) }
-    ensures cause { HasCause (K.told sink.old).faults (K.told sink.new).faults result }
+    ensures cause { HasCause (K.told sink.old).faults (K.told sink.new).faults (is_err result) }
 {
     for more in records {
-        match write_bytes(sink, piece, &line_of_record(*more)) {
-            Ok(()) => {}
-            Err(short) => return Err(short),
-        }
+        write_bytes(sink, piece, &line_of_record(*more))?;
     }
     Ok(())
 }
@@ -108,7 +100,7 @@ pub fn write_end<K: Sink>(sink: &mut K, piece: &mut Piece, end: EndLine) -> Resu
     requires cause { cause_byte end.why ≢ None }
     ensures ok { OnOk result (WritesOn (end_bytes end) (K.told sink.old) piece.old.items (K.told sink.new) piece.new.items) }
     ensures err { OnErr result (EndsIn (end_bytes end) (K.told sink.old) piece.old.items (K.told sink.new)) }
-    ensures cause { HasCause (K.told sink.old).faults (K.told sink.new).faults result }
+    ensures cause { HasCause (K.told sink.old).faults (K.told sink.new).faults (is_err result) }
 {
     let cause = match end.why {
         Why::Full => 1,
@@ -131,17 +123,11 @@ fn write_around<K: Sink>(
     requires cause { cause_byte end.why ≢ None }
     ensures ok { OnOk result (WritesOn (lines_bytes records.now (Some end)) (K.told sink.old) piece.old.items (K.told sink.new) piece.new.items) }
     ensures err { OnErr result (EndsIn (lines_bytes records.now (Some end)) (K.told sink.old) piece.old.items (K.told sink.new)) }
-    ensures cause { HasCause (K.told sink.old).faults (K.told sink.new).faults result }
+    ensures cause { HasCause (K.told sink.old).faults (K.told sink.new).faults (is_err result) }
 {
     let (before, after) = records.split_at(end.records);
-    match write_records(sink, piece, before) {
-        Ok(()) => {}
-        Err(short) => return Err(short),
-    }
-    match write_end(sink, piece, end) {
-        Ok(()) => {}
-        Err(short) => return Err(short),
-    }
+    write_records(sink, piece, before)?;
+    write_end(sink, piece, end)?;
     write_records(sink, piece, after)
 }
 
@@ -155,7 +141,7 @@ fn write_body<K: Sink>(
     requires { EndFits records.now end }
     ensures ok { OnOk result (WritesOn (lines_bytes records.now end) (K.told sink.old) piece.old.items (K.told sink.new) piece.new.items) }
     ensures err { OnErr result (EndsIn (lines_bytes records.now end) (K.told sink.old) piece.old.items (K.told sink.new)) }
-    ensures cause { HasCause (K.told sink.old).faults (K.told sink.new).faults result }
+    ensures cause { HasCause (K.told sink.old).faults (K.told sink.new).faults (is_err result) }
 {
     match end {
         Some(end) => write_around(sink, piece, records, end),
@@ -167,12 +153,9 @@ fn write_body<K: Sink>(
 fn write_closing<K: Sink>(sink: &mut K, piece: &mut Piece, count: u32) -> Result<(), Short>
     ensures ok { OnOk result (WritesOn (closing_bytes count) (K.told sink.old) piece.old.items (K.told sink.new) []) }
     ensures err { OnErr result (EndsIn (closing_bytes count) (K.told sink.old) piece.old.items (K.told sink.new)) }
-    ensures cause { HasCause (K.told sink.old).faults (K.told sink.new).faults result }
+    ensures cause { HasCause (K.told sink.old).faults (K.told sink.new).faults (is_err result) }
 {
-    match write_bytes(sink, piece, &line_of_count(count)) {
-        Ok(()) => {}
-        Err(short) => return Err(short),
-    }
+    write_bytes(sink, piece, &line_of_count(count))?;
     put_piece(sink, piece)
 }
 
@@ -184,16 +167,10 @@ pub fn write_lines<K: Sink>(
 ) -> Result<(), Short>
     requires { AreLines (record { records = records.now; end = end }) }
     ensures gives { PutGives result (file_bytes (record { records = records.now; end = end })) (K.told sink.old) (K.told sink.new) }
-    ensures cause { HasCause (K.told sink.old).faults (K.told sink.new).faults result }
+    ensures cause { HasCause (K.told sink.old).faults (K.told sink.new).faults (is_err result) }
 {
     let mut piece = Piece::new();
-    match write_bytes(sink, &mut piece, b"TVJ1") {
-        Ok(()) => {}
-        Err(short) => return Err(short),
-    }
-    match write_body(sink, &mut piece, records, end) {
-        Ok(()) => {}
-        Err(short) => return Err(short),
-    }
+    write_bytes(sink, &mut piece, b"TVJ1")?;
+    write_body(sink, &mut piece, records, end)?;
     write_closing(sink, &mut piece, records.len() as u32)
 }

@@ -3,9 +3,9 @@ use Rattle.std.proofs.Common.{◌≡◌, ℕ, List, [], Result, Ok, Err, IfOk, I
 use Rattle.toml.specs.Data.{Members}
 use Rattle.tv_machine_file.specs.declared.fault.FileFault.{FileFault}
 use Rattle.tv_machine_file.specs.declared.fault.FileFault.TheVariants.{NotToml, Unknown, Missing, Kind, Range, Twice, Overlap, Memory}
-use Rattle.tv_machine_file.specs.declared.machine.Machine.{Machine}
+use Rattle.tv_machine.specs.declared.machine.Machine.{Machine}
 use Rattle.tv_machine_file.specs.Keys.{Tells}
-use Rattle.tv_machine_file.specs.Valid.{IsValid}
+use Rattle.tv_machine.specs.Valid.{IsValid}
 use Rattle.tv_machine_file.proofs.Validity.{valid_machine}
 use Rattle.tv_machine_file.specs.MachineFiles.{IsAnswer, IsToml, file_faults, machine_of}
 

@@ -9,12 +9,13 @@ use Rattle.std.specs.Cmp.Lexicographic.{bytes_decides}
 use Rattle.std.specs.List.{All, AllPairs}
 use Rattle.std.specs.Option.{option_to_list}
 use Rattle.toml.specs.Data.{Data, as_str, as_integer, as_array, Items, no_items, item, Members, get_member}
+use Rattle.tv_base.specs.declared.limits.TheConstants.{LINES, FILE_NAME_BYTES, SOCKET_NAME_BYTES}
 use Rattle.tv_machine_file.specs.declared.fault.FileFault.{FileFault}
 use Rattle.tv_machine_file.specs.declared.keys.Bounds.{Bounds}
 use Rattle.tv_machine_file.specs.declared.keys.TableKind.TheVariants as table_kind
 use Rattle.tv_machine_file.specs.Keys.{member_path, is_in, is_name, is_among, same_text, range_fault, integer_faults, number_faults, number_of, number_or, text_faults, name_faults, name_or_none, text_of, unknown_faults}
 use Rattle.tv_machine_file.specs.MachineFiles.{file_faults, machine_of, item_count, socket_fault, socket_faults, sockets_faults, sockets_in, control_faults, control_of, twice_fault, texts_in, ram_bounds, harts_bounds, steps_bounds, journal_entries_bounds, journal_bytes_bounds, tube_bounds}
-use Rattle.tv_machine_file.specs.Valid.{IsValid, IsWithin, IsSocketName, AreDifferent}
+use Rattle.tv_machine.specs.Valid.{IsValid, IsWithin, IsSocketName, AreDifferent}
 
 -- no fault in two lists of faults is none in each
 pub none_in : (a b : List FileFault) → a ++ b ≡ [] → (a ≡ []) × (b ≡ [])
@@ -87,9 +88,9 @@ pub record AreSockets (names : List (List ℕ)) : Type 0 where
 one_more : (path : List ℕ) (n : ℕ) (earlier : List (List ℕ)) (name : List ℕ) → AreSockets earlier → socket_fault path n earlier (Some name) ≡ []
     → AreSockets (earlier ++ name ∷ [])
 one_more path n earlier name are none =
-    let (fits, once) = none_in (range_fault (is_name 100 name) (member_path path n)) (twice_fault (is_among name earlier) (member_path path n)) none in
+    let (fits, once) = none_in (range_fault (is_name SOCKET_NAME_BYTES name) (member_path path n)) (twice_fault (is_among name earlier) (member_path path n)) none in
     record {
-      sockets = All-push IsSocketName earlier name are.sockets (name_within 100 name (in_range (is_name 100 name) _ fits));
+      sockets = All-push IsSocketName earlier name are.sockets (name_within SOCKET_NAME_BYTES name (in_range (is_name SOCKET_NAME_BYTES name) _ fits));
       distinct = all_pairs_push AreDifferent earlier name are.distinct (other_than name earlier (not_twice (is_among name earlier) _ once));
     }
 
@@ -119,15 +120,15 @@ no_sockets = record { sockets = λ k d below. absurd (omega arith); distinct = �
 
 -- the lines of a machine file without a fault
 pub record AreLines (names : List (List ℕ)) : Type 0 where
-  pub few : length names ≤ 4
+  pub few : length names ≤ LINES
   pub are : AreSockets names
 
 lines_in : (path : List ℕ) (o : Option Items) → sockets_faults path o ≡ [] → AreLines (sockets_in o)
 lines_in path None none = absurd (cc)
 lines_in path (Some ds) none =
-    let (count, each) = none_in (range_fault (nat_le (item_count ds) 4) path) (socket_faults path 0 [] ds) none in
-    let fits : nat_le (item_count ds) 4 ≡ true = in_range (nat_le (item_count ds) 4) path count in
-    let few : item_count ds ≤ 4 = grind (arith, nat_tests) in
+    let (count, each) = none_in (range_fault (nat_le (item_count ds) LINES) path) (socket_faults path 0 [] ds) none in
+    let fits : nat_le (item_count ds) LINES ≡ true = in_range (nat_le (item_count ds) LINES) path count in
+    let few : item_count ds ≤ LINES = grind (arith, nat_tests) in
     record { few = omega (arith, no_longer ds); are = sockets_in_items path 0 [] ds no_sockets each }
 
 pub lines : (path : List ℕ) (o : Option Data) → control_faults path o ≡ [] → AreLines (control_of o)
@@ -138,7 +139,7 @@ lines path (Some d) none = lines_in path (as_array d) none
 pub valid_machine : (t : Members) → file_faults t ≡ [] → IsValid (machine_of t)
 valid_machine t none =
     let (k, after_keys) = none_in (unknown_faults table_kind.File [] t) _ none in
-    let (i, after_image) = none_in (name_faults 255 (codes "image") (get_member (codes "image") t)) _ after_keys in
+    let (i, after_image) = none_in (name_faults FILE_NAME_BYTES (codes "image") (get_member (codes "image") t)) _ after_keys in
     let (r, after_ram) = none_in (number_faults ram_bounds (codes "ram") (get_member (codes "ram") t)) _ after_image in
     let (h, after_harts) = none_in (number_faults harts_bounds (codes "harts") (get_member (codes "harts") t)) _ after_ram in
     let (s, after_steps) = none_in (number_faults steps_bounds (codes "steps") (get_member (codes "steps") t)) _ after_harts in
@@ -149,7 +150,7 @@ valid_machine t none =
     let control : AreLines (control_of (get_member (codes "control") t)) = lines (codes "control") (get_member (codes "control") t) c in
     let ram = within ram_bounds _ (bounded ram_bounds (codes "ram") (get_member (codes "ram") t) refl r) in
     record {
-      image = named 255 (codes "image") (get_member (codes "image") t) i;
+      image = named FILE_NAME_BYTES (codes "image") (get_member (codes "image") t) i;
       ram = ram.0;
       pages = ram.1;
       harts = (within harts_bounds _ (bounded harts_bounds (codes "harts") (get_member (codes "harts") t) refl h)).0;

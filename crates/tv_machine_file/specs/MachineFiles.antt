@@ -2,31 +2,32 @@
 use Rattle.std.specs.Prelude.{◌≡◌, ℕ, ◌+◌, ◌++◌, Bool, true, false, nat_le, List, [], ◌∷◌, codes, Option, Some, None, Result, Ok, Err, option_to_list, IsUtf8}
 use Rattle.toml.specs.Data.{Data, as_str, as_array, as_table, Items, no_items, item, Members, get_member}
 use Rattle.toml.specs.Parse.{parse_document}
+use Rattle.tv_base.specs.declared.limits.TheConstants.{HARTS, DEVICES, LINES, RAM_BYTES, RAM_BYTES_LEAST, RAM_BYTES_DEFAULT, PAGE_BYTES, TUBE_MESSAGES, TUBE_MESSAGES_DEFAULT, HART_EVENTS, HART_EVENTS_DEFAULT, JOURNAL_RECORDS, JOURNAL_RECORDS_DEFAULT, JOURNAL_PAYLOAD_BYTES, JOURNAL_PAYLOAD_BYTES_DEFAULT, FILE_NAME_BYTES, SOCKET_NAME_BYTES}
 use Rattle.tv_machine_file.specs.declared.fault.FileFault.{FileFault}
 use Rattle.tv_machine_file.specs.declared.fault.FileFault.TheVariants.{NotToml, Missing, Kind, Range, Twice, Memory}
 use Rattle.tv_machine_file.specs.declared.keys.Bounds.{Bounds}
 use Rattle.tv_machine_file.specs.declared.keys.TableKind.TheVariants as table_kind
-use Rattle.tv_machine_file.specs.declared.machine.Machine.{Machine}
+use Rattle.tv_machine.specs.declared.machine.Machine.{Machine}
 use Rattle.tv_machine_file.specs.Keys.{key_path, member_path, is_among, unknown_faults, range_fault, number_faults, name_faults, is_name, number_or, name_or_none, first}
 
 -- the numbers of a machine: the least, the most, what each is a multiple of, and the one that is usual
 abbrev pub ram_bounds : Bounds
-ram_bounds = record { least = 65536; most = 268435456; step = 4096; usual = 16777216 }
+ram_bounds = record { least = RAM_BYTES_LEAST; most = RAM_BYTES; step = PAGE_BYTES; usual = RAM_BYTES_DEFAULT }
 
 abbrev pub harts_bounds : Bounds
-harts_bounds = record { least = 1; most = 8; step = 1; usual = 1 }
+harts_bounds = record { least = 1; most = HARTS; step = 1; usual = 1 }
 
 abbrev pub steps_bounds : Bounds
-steps_bounds = record { least = 1; most = 100000000; step = 1; usual = 1000000 }
+steps_bounds = record { least = 1; most = HART_EVENTS; step = 1; usual = HART_EVENTS_DEFAULT }
 
 abbrev pub journal_entries_bounds : Bounds
-journal_entries_bounds = record { least = 1; most = 16777216; step = 1; usual = 1048576 }
+journal_entries_bounds = record { least = 1; most = JOURNAL_RECORDS; step = 1; usual = JOURNAL_RECORDS_DEFAULT }
 
 abbrev pub journal_bytes_bounds : Bounds
-journal_bytes_bounds = record { least = 0; most = 134217728; step = 1; usual = 67108864 }
+journal_bytes_bounds = record { least = 0; most = JOURNAL_PAYLOAD_BYTES; step = 1; usual = JOURNAL_PAYLOAD_BYTES_DEFAULT }
 
 abbrev pub tube_bounds : Bounds
-tube_bounds = record { least = 1; most = 256; step = 1; usual = 64 }
+tube_bounds = record { least = 1; most = TUBE_MESSAGES; step = 1; usual = TUBE_MESSAGES_DEFAULT }
 
 -- how many members an array has
 abbrev pub item_count : Items → ℕ
@@ -42,7 +43,7 @@ twice_fault false path = []
 abbrev pub socket_fault : List ℕ → ℕ → List (List ℕ) → Option (List ℕ) → List FileFault
 socket_fault path n earlier None = Kind (member_path path n) ∷ []
 socket_fault path n earlier (Some name) =
-    range_fault (is_name 100 name) (member_path path n) ++ twice_fault (is_among name earlier) (member_path path n)
+    range_fault (is_name SOCKET_NAME_BYTES name) (member_path path n) ++ twice_fault (is_among name earlier) (member_path path n)
 
 -- the faults of the sockets from the n-th on, after these names
 abbrev pub socket_faults : List ℕ → ℕ → List (List ℕ) → Items → List FileFault
@@ -52,7 +53,7 @@ socket_faults path n earlier (item d ds) =
 
 abbrev pub sockets_faults : List ℕ → Option Items → List FileFault
 sockets_faults path None = Kind path ∷ []
-sockets_faults path (Some ds) = range_fault (nat_le (item_count ds) 4) path ++ socket_faults path 0 [] ds
+sockets_faults path (Some ds) = range_fault (nat_le (item_count ds) LINES) path ++ socket_faults path 0 [] ds
 
 -- the faults of the array of sockets
 abbrev pub control_faults : List ℕ → Option Data → List FileFault
@@ -93,7 +94,7 @@ slot_faults path n (item d ds) = device_faults (member_path path n) (as_table d)
 
 abbrev pub slots_faults : List ℕ → Option Items → List FileFault
 slots_faults path None = Kind path ∷ []
-slots_faults path (Some ds) = range_fault (nat_le (item_count ds) 8) path ++ slot_faults path 0 ds
+slots_faults path (Some ds) = range_fault (nat_le (item_count ds) DEVICES) path ++ slot_faults path 0 ds
 
 -- the faults of the array of devices
 abbrev pub devices_faults : List ℕ → Option Data → List FileFault
@@ -103,7 +104,7 @@ devices_faults path (Some d) = slots_faults path (as_array d)
 -- the faults of a machine file in their order: the least key that it doesn't know, and then those of its keys
 abbrev pub file_faults : Members → List FileFault
 file_faults t =
-    unknown_faults table_kind.File [] t ++ (name_faults 255 (codes "image") (get_member (codes "image") t)
+    unknown_faults table_kind.File [] t ++ (name_faults FILE_NAME_BYTES (codes "image") (get_member (codes "image") t)
     ++ (number_faults ram_bounds (codes "ram") (get_member (codes "ram") t)
     ++ (number_faults harts_bounds (codes "harts") (get_member (codes "harts") t)
     ++ (number_faults steps_bounds (codes "steps") (get_member (codes "steps") t)

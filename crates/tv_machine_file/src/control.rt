@@ -8,16 +8,11 @@ ghost use Rattle.tv_machine_file.specs.MachineFiles.{control_faults, control_of,
 
 use crate::fault::FileFault;
 use crate::keys::{Rule, broken, find};
-use crate::lists::NameList;
-use crate::text::KeyText;
 use itoa::Buffer;
 use std::alloc::Global;
 use toml::{Table, Value};
-
-/// Bytes of a socket's name, at most.
-const SOCKET_NAME_BYTES: usize = 100;
-/// Control lines, at most.
-const LINES: usize = 4;
+use tv_base::{LINES, SOCKET_NAME_BYTES};
+use tv_machine::{KeyText, NameList};
 
 /// The sockets of the control lines.
 pub fn read_control(alloc: Global, table: &Table) -> Result<NameList, FileFault>
@@ -41,7 +36,7 @@ fn read_sockets(alloc: Global, items: &[Value]) -> Result<NameList, FileFault>
     ensures value { IfOk result (λ names. names ≡ texts_in (items_view items.now)) }
     ensures fault { IfErr result (Tells (sockets_faults (codes "control") (Some (items_view items.now)))) }
 {
-    if items.len() > LINES {
+    if items.len() > usize::from(LINES) {
         return Err(broken(alloc, Rule::Range, "", "control"));
     }
     read_each(alloc, items)

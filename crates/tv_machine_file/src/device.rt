@@ -8,13 +8,11 @@ ghost use Rattle.tv_machine_file.specs.MachineFiles.{device_faults, devices_faul
 
 use crate::fault::FileFault;
 use crate::keys::{Rule, TableKind, broken, check_known, find, path_text};
-use crate::lists::DeviceList;
 use itoa::Buffer;
 use std::alloc::Global;
 use toml::{Table, Value};
-
-/// Devices, at most.
-const DEVICES: usize = 8;
+use tv_base::DEVICES;
+use tv_machine::DeviceList;
 
 /// The devices.
 pub fn read_devices(alloc: Global, table: &Table) -> Result<DeviceList, FileFault>
@@ -38,7 +36,7 @@ fn read_slots(alloc: Global, items: &[Value]) -> Result<DeviceList, FileFault>
     ensures value { IfOk result (λ devices. devices ≡ []) }
     ensures fault { IfErr result (Tells (slots_faults (codes "device") (Some (items_view items.now)))) }
 {
-    if items.len() > DEVICES {
+    if items.len() > usize::from(DEVICES) {
         return Err(broken(alloc, Rule::Range, "", "device"));
     }
     if items.is_empty() {

@@ -1,6 +1,6 @@
 //! Why a machine file is refused.
 
-use crate::text::KeyText;
+use tv_machine::KeyText;
 
 /// Why a machine file is refused, with the path of the key.
 #[derive(Drop)]

@@ -1,14 +1,14 @@
 //! The keys of a machine file and their values.
 
-ghost use Rattle.std.specs.Prelude.{◌≡◌, ◌≢◌, ◌<◌, ◌≤◌, [], IfOk, IfErr, IfSome, IfNone, IsTrue, false, option_map, pos};
+ghost use Rattle.std.specs.Prelude.{◌≡◌, ◌≢◌, ◌<◌, ◌≤◌, [], IfOk, IfErr, IfSome, IfNone, IsTrue, false, option_map, pos, map};
 ghost use Rattle.toml.specs.View.{table_view, view};
 ghost use Rattle.tv_machine_file.specs.Keys.{Tells, fault_of, held, is_among, is_in, key_path, known_keys, name_faults, name_or_none, number_faults, number_or, unknown_faults};
 
 use crate::fault::FileFault;
-use crate::text::KeyText;
 use std::alloc::Global;
 use toml::{Table, Value};
 use tv_base::Memory;
+use tv_machine::KeyText;
 
 /// What a number of a machine file may be.
 #[derive(Clone, Copy)]
@@ -82,32 +82,48 @@ pub fn find<'a>(table: &'a Table, key: &str) -> Option<&'a Value>
     table.get(key)
 }
 
+/// The keys of the file itself.
+const FILE_KEYS: [&str; 9] = [
+    "image",
+    "ram",
+    "harts",
+    "steps",
+    "journal_entries",
+    "journal_bytes",
+    "tube",
+    "control",
+    "device",
+];
+
+/// The keys of a device.
+const DEVICE_KEYS: [&str; 7] = ["kind", "mem", "irq", "disk", "readonly", "output", "input"];
+
 /// Whether a table knows this key.
 fn is_known(kind: TableKind, key: &str) -> bool
     ensures { result ≡ is_among key.now (known_keys kind) }
 {
     match kind {
         TableKind::File => {
-            key == "image"
-                || key == "ram"
-                || key == "harts"
-                || key == "steps"
-                || key == "journal_entries"
-                || key == "journal_bytes"
-                || key == "tube"
-                || key == "control"
-                || key == "device"
+            let keys: [&str; 9] = FILE_KEYS;
+            is_listed(key, keys.as_slice())
         }
         TableKind::Device => {
-            key == "kind"
-                || key == "mem"
-                || key == "irq"
-                || key == "disk"
-                || key == "readonly"
-                || key == "output"
-                || key == "input"
+            let keys: [&str; 7] = DEVICE_KEYS;
+            is_listed(key, keys.as_slice())
         }
     }
+}
+
+/// Whether a text is one of these names.
+fn is_listed(text: &str, names: &[&str]) -> bool
+    ensures { result ≡ is_among text.now (map (λ name. name.now) names.now) }
+{
+    for name in names {
+        if text == *name {
+            return true;
+        }
+    }
+    false
 }
 
 /// The first key that a table doesn't know.

@@ -4,60 +4,62 @@ ghost use Rattle.std.specs.Prelude.{◌≡◌, [], IfOk, IfErr};
 ghost use Rattle.toml.specs.View.{table_view};
 ghost use Rattle.tv_machine_file.specs.Keys.{Tells};
 ghost use Rattle.tv_machine_file.specs.MachineFiles.{IsAnswer, file_faults, machine_of};
-ghost use Rattle.tv_machine_file.specs.Valid.{IsValid};
+ghost use Rattle.tv_machine.specs.Valid.{IsValid};
 
 use crate::control::read_control;
 use crate::device::read_devices;
 use crate::fault::FileFault;
 use crate::keys::{Bounds, TableKind, check_known, name, number};
-use crate::machine::Machine;
 use std::alloc::Global;
 use toml::Table;
-
-/// Bytes of a file's name, at most.
-const FILE_NAME_BYTES: usize = 255;
+use tv_base::{
+    FILE_NAME_BYTES, HART_EVENTS, HART_EVENTS_DEFAULT, HARTS, JOURNAL_PAYLOAD_BYTES,
+    JOURNAL_PAYLOAD_BYTES_DEFAULT, JOURNAL_RECORDS, JOURNAL_RECORDS_DEFAULT, PAGE_BYTES, RAM_BYTES,
+    RAM_BYTES_DEFAULT, RAM_BYTES_LEAST, TUBE_MESSAGES, TUBE_MESSAGES_DEFAULT,
+};
+use tv_machine::Machine;
 
 /// Bytes of guest memory.
-const RAM: Bounds = Bounds {
-    least: 0x1_0000,
-    most: 0x1000_0000,
-    step: 4096,
-    usual: 0x100_0000,
+const RAM_BOUNDS: Bounds = Bounds {
+    least: RAM_BYTES_LEAST,
+    most: RAM_BYTES,
+    step: PAGE_BYTES,
+    usual: RAM_BYTES_DEFAULT,
 };
 /// Harts.
-const HARTS: Bounds = Bounds {
+const HARTS_BOUNDS: Bounds = Bounds {
     least: 1,
-    most: 8,
+    most: HARTS as u32,
     step: 1,
     usual: 1,
 };
 /// Hart events of a run.
-const STEPS: Bounds = Bounds {
+const STEPS_BOUNDS: Bounds = Bounds {
     least: 1,
-    most: 100_000_000,
+    most: HART_EVENTS,
     step: 1,
-    usual: 1_000_000,
+    usual: HART_EVENTS_DEFAULT,
 };
 /// Records of the journal.
-const JOURNAL_ENTRIES: Bounds = Bounds {
+const JOURNAL_ENTRIES_BOUNDS: Bounds = Bounds {
     least: 1,
-    most: 0x100_0000,
+    most: JOURNAL_RECORDS,
     step: 1,
-    usual: 0x10_0000,
+    usual: JOURNAL_RECORDS_DEFAULT,
 };
 /// Payload bytes of the journal.
-const JOURNAL_BYTES: Bounds = Bounds {
+const JOURNAL_BYTES_BOUNDS: Bounds = Bounds {
     least: 0,
-    most: 0x800_0000,
+    most: JOURNAL_PAYLOAD_BYTES,
     step: 1,
-    usual: 0x400_0000,
+    usual: JOURNAL_PAYLOAD_BYTES_DEFAULT,
 };
 /// Messages in a device's command tube.
-const TUBE: Bounds = Bounds {
+const TUBE_BOUNDS: Bounds = Bounds {
     least: 1,
-    most: 256,
+    most: TUBE_MESSAGES as u32,
     step: 1,
-    usual: 64,
+    usual: TUBE_MESSAGES_DEFAULT as u32,
 };
 
 /// Reads a machine file.
@@ -88,12 +90,12 @@ fn read_table(alloc: Global, table: &Table) -> Result<Machine, FileFault>
 {
     check_known(alloc, table, TableKind::File, "")?;
     let image = name(alloc, table, "", "image", FILE_NAME_BYTES)?;
-    let ram = number(alloc, table, "", "ram", &RAM)?;
-    let harts = number(alloc, table, "", "harts", &HARTS)? as u8;
-    let steps = number(alloc, table, "", "steps", &STEPS)?;
-    let journal_entries = number(alloc, table, "", "journal_entries", &JOURNAL_ENTRIES)?;
-    let journal_bytes = number(alloc, table, "", "journal_bytes", &JOURNAL_BYTES)?;
-    let tube = number(alloc, table, "", "tube", &TUBE)? as u16;
+    let ram = number(alloc, table, "", "ram", &RAM_BOUNDS)?;
+    let harts = number(alloc, table, "", "harts", &HARTS_BOUNDS)? as u8;
+    let steps = number(alloc, table, "", "steps", &STEPS_BOUNDS)?;
+    let journal_entries = number(alloc, table, "", "journal_entries", &JOURNAL_ENTRIES_BOUNDS)?;
+    let journal_bytes = number(alloc, table, "", "journal_bytes", &JOURNAL_BYTES_BOUNDS)?;
+    let tube = number(alloc, table, "", "tube", &TUBE_BOUNDS)? as u16;
     let control = read_control(alloc, table)?;
     let device = read_devices(alloc, table)?;
     Ok(Machine {

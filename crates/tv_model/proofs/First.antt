@@ -5,7 +5,7 @@ use Rattle.tv_hart.specs.Hart.{first_hart}
 use Rattle.tv_hart.specs.HartState.{HartState}
 use Rattle.std.specs.Bool.{OnTrue}
 use Rattle.std.proofs.lemmas.Bool.Decides.{eqb_tells}
-use Rattle.tv_machine_file.specs.declared.machine.Machine.{Machine}
+use Rattle.tv_machine.specs.declared.machine.Machine.{Machine}
 use Rattle.tv_ram.specs.Memory.{is_inside, ram_base, with_bytes, with_image, zeros}
 use Rattle.tv_ram.proofs.Inside.{image_written, length_zeros}
 use Rattle.tv_spec.specs.declared.Mode.TheVariants as mode

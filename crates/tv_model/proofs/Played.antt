@@ -12,7 +12,7 @@ use Rattle.tv_journal.specs.declared.record.Record.TheVariants as record_of
 use Rattle.tv_journal.specs.Entries.{entries_in, entries_of, record_count, records_of}
 use Rattle.tv_journal.specs.Journals.{IsOuterEnd, entry_and_count, next_from, next_record}
 use Rattle.tv_journal.proofs.Cuts.{entries-again, count-of-front}
-use Rattle.tv_machine_file.specs.declared.machine.Machine.{Machine}
+use Rattle.tv_machine.specs.declared.machine.Machine.{Machine}
 use Rattle.tv_spec.specs.Legal.{IsLegal, HasPlace, after, with_outer}
 use Rattle.tv_spec.specs.Setup.{Setup, setup_of}
 use Rattle.tv_spec.specs.State.{State, first_state}

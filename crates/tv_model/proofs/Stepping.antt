@@ -11,7 +11,7 @@ use Rattle.tv_journal.specs.declared.record.Record.{Record}
 use Rattle.tv_journal.specs.Entries.{entries_in, entries_of, records_of}
 use Rattle.tv_journal.specs.Grammar.{cause_byte, outer_of, EndFits}
 use Rattle.tv_journal.specs.Journals.{IsOuterEnd}
-use Rattle.tv_machine_file.specs.declared.machine.Machine.{Machine}
+use Rattle.tv_machine.specs.declared.machine.Machine.{Machine}
 use Rattle.tv_spec.specs.Legal.{IsLegal, IsLegalRun, HasPlace, after, with_outer}
 use Rattle.tv_spec.specs.Setup.{Setup, setup_of}
 use Rattle.tv_spec.specs.State.{State, first_state}

@@ -7,7 +7,7 @@ use Rattle.tv_spec.specs.declared.Mode.{Mode}
 use Rattle.tv_spec.specs.declared.Mode.TheVariants as mode
 use Rattle.tv_spec.specs.declared.Shown.{Shown}
 use Rattle.tv_spec.specs.declared.Shown.TheVariants as shown
-use Rattle.tv_machine_file.specs.declared.machine.Machine.{Machine}
+use Rattle.tv_machine.specs.declared.machine.Machine.{Machine}
 use Rattle.tv_spec.specs.Legal.{IsLegal, after}
 use Rattle.tv_spec.specs.Setup.{setup_of}
 use Rattle.tv_spec.specs.State.{State, first_state}

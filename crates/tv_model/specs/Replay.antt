@@ -5,7 +5,7 @@ use Rattle.tv_journal.specs.declared.Entry.{Entry}
 use Rattle.tv_journal.specs.declared.record.Record.{Record}
 use Rattle.tv_journal.specs.Entries.{entries_of, record_count, records_of}
 use Rattle.tv_journal.specs.Journals.{JournalState}
-use Rattle.tv_machine_file.specs.declared.machine.Machine.{Machine}
+use Rattle.tv_machine.specs.declared.machine.Machine.{Machine}
 use Rattle.tv_spec.specs.Legal.{IsLegal, IsLegalRun, after, with_outer}
 use Rattle.tv_spec.specs.Setup.{setup_of}
 use Rattle.tv_spec.specs.State.{State, first_state}

@@ -1,7 +1,7 @@
 //! A guest's machine: harts, memory and local ports, which move by the entries of a journal.
 
 ghost use Rattle.std.specs.Prelude.{◌≡◌, ◌≢◌, ◌<◌, ◌≤◌, ◌↔◌, IsTrue, None, IfOk, length};
-ghost use Rattle.tv_machine_file.specs.Valid.{IsValid};
+ghost use Rattle.tv_machine.specs.Valid.{IsValid};
 ghost use Rattle.tv_journal.specs.Grammar.{cause_byte};
 ghost use Rattle.tv_journal.specs.declared.Entry.TheVariants as entry;
 ghost use Rattle.tv_spec.specs.Step.{made, ended, mode_by, end_at, end_shown};
@@ -15,7 +15,7 @@ use std::marker::Model;
 use tv_base::{HartNo, Memory, RAM_BASE, Why};
 use tv_hart::Hart;
 use tv_intc::Finish;
-use tv_machine_file::Machine;
+use tv_machine::Machine;
 use tv_ram::Ram;
 use tv_spec::{Mode, Shown};
 

@@ -3,7 +3,7 @@
 ghost use Rattle.std.specs.Prelude.{◌≡◌, ◌≢◌, ◌<◌, ◌≤◌, ◌+◌, ◌++◌, None, [], IfOk, length, vec_len, vec_capacity};
 ghost use Rattle.tv_spec.specs.Shows.{byte_shown, exit_status};
 ghost use Rattle.tv_journal.specs.Grammar.{cause_byte};
-ghost use Rattle.tv_machine_file.specs.Valid.{IsValid};
+ghost use Rattle.tv_machine.specs.Valid.{IsValid};
 ghost use Rattle.tv_model.specs.Guest.{IsFirst};
 ghost use Rattle.tv_model.specs.Monitor.{StepsSo, BurstsSo, EndsSo, status_of};
 
@@ -12,7 +12,7 @@ use std::alloc::Global;
 use std::marker::Model;
 use tv_base::{HartNo, Memory, Why};
 use tv_journal::Entry;
-use tv_machine_file::Machine;
+use tv_machine::Machine;
 use tv_spec::{Mode, Shown};
 
 /// Why an entry was not made.

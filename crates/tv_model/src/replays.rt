@@ -3,8 +3,8 @@
 ghost use Rattle.std.specs.Prelude.{◌≡◌, ◌≤◌, ℕ, List, Option, IfOk, length};
 ghost use Rattle.tv_base.specs.declared.Why.{Why};
 ghost use Rattle.tv_journal.specs.declared.Entry.{Entry};
-ghost use Rattle.tv_machine_file.specs.declared.machine.Machine.{Machine};
-ghost use Rattle.tv_machine_file.specs.Valid.{IsValid};
+ghost use Rattle.tv_machine.specs.declared.machine.Machine.{Machine};
+ghost use Rattle.tv_machine.specs.Valid.{IsValid};
 ghost use Rattle.tv_spec.specs.Legal.{IsLegalRun};
 ghost use Rattle.tv_model.specs.Replay.{IsFirstIllegal, ReplaysSo};
 ghost use Rattle.tv_model.specs.Replaying.{StepsOften, EndsDue, HasCause, HasLeft, closer};
@@ -13,7 +13,7 @@ use crate::monitor::{Monitor, StepFault};
 use std::alloc::Global;
 use tv_base::{HartNo, Memory, Why};
 use tv_journal::{Entry, Journal};
-use tv_machine_file::Machine;
+use tv_machine::Machine;
 
 /// What a replay found.
 #[derive(Clone, Copy, Debug, PartialEq, Eq)]

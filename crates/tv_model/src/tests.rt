@@ -1,32 +1,27 @@
 //! Runs worked out by hand, and journals of them.
 
-ghost use Rattle.std.specs.Prelude.{◌≡◌, ◌≤◌, ◌^◌, IfOk, length};
-ghost use Rattle.tv_machine_file.specs.Valid.{IsValid};
+ghost use Rattle.std.specs.Prelude.{◌≡◌, ◌≤◌, IfOk, length};
+ghost use Rattle.tv_machine.specs.Valid.{IsValid};
 
 use super::local::Local;
 use super::{Monitor, Replayed, StepFault, replay};
 use std::alloc::Global;
 use std::process::Abort;
 use std::test::Fail;
-use tv_base::{HartNo, Memory, Width};
+use tv_base::{FLAT_RAM_BYTES, HartNo, Memory, Width};
+use tv_fake::first_run::{IMAGE, JOURNAL};
 use tv_hart::{Loaded, Place, Stored};
 use tv_isa::AmoOp;
 use tv_journal::{Entry, Journal};
-use tv_machine_file::Machine;
+use tv_machine::Machine;
 use tv_ram::Ram;
-
-/// The image that prints `A` and switches off.
-const HELLO: [u8; 28] = [
-    0xb7, 0x02, 0x00, 0x10, 0x13, 0x03, 0x10, 0x04, 0x23, 0x80, 0x62, 0x00, 0xb7, 0x02, 0x10, 0x00,
-    0x37, 0x53, 0x00, 0x00, 0x13, 0x03, 0x53, 0x55, 0x23, 0xa0, 0x62, 0x00,
-];
 
 /// The image of one jump to itself.
 const LOOP: [u8; 4] = [0x6f, 0x00, 0x00, 0x00];
 
 /// Replays a journal file on the flat machine.
 fn replay_file(alloc: Global, image: &[u8], file: &[u8]) -> Result<Replayed, Fail>
-    requires { length image.now ≤ 2 ^ 20 }
+    requires { length image.now ≤ FLAT_RAM_BYTES }
 {
     let Ok(machine) = Machine::flat(alloc) else {
         return Err(Fail::from("memory"));
@@ -46,7 +41,7 @@ fn first_image_is_stepped(rt: HostRuntime) -> Result<(), Fail> {
     let Ok(machine) = Machine::flat(alloc) else {
         return Err(Fail::from("memory"));
     };
-    let Ok(mut monitor) = Monitor::new(alloc, &machine, &HELLO) else {
+    let Ok(mut monitor) = Monitor::new(alloc, &machine, &IMAGE) else {
         return Err(Fail::from("memory"));
     };
     let event = Entry::Hart(HartNo::new(0).expect(&rt, "a hart"));
@@ -64,34 +59,30 @@ fn first_image_is_stepped(rt: HostRuntime) -> Result<(), Fail> {
 fn journals_are_replayed(rt: HostRuntime) -> Result<(), Fail> {
     let rows: [(&[u8], &[u8], Replayed); 14] = [
         // The first image's seven events; one more; one less.
+        (&IMAGE, &JOURNAL, Replayed::Legal(Some(0))),
         (
-            &HELLO,
-            b"TVJ1\x01\x00\x07\x00\x00\x00\x00\x01\x00\x00\x00",
-            Replayed::Legal(Some(0)),
-        ),
-        (
-            &HELLO,
+            &IMAGE,
             b"TVJ1\x01\x00\x08\x00\x00\x00\x00\x01\x00\x00\x00",
             Replayed::Illegal(0),
         ),
         (
-            &HELLO,
+            &IMAGE,
             b"TVJ1\x01\x00\x06\x00\x00\x00\x00\x01\x00\x00\x00",
             Replayed::Legal(None),
         ),
         // A tick among them; a tick and another end after them.
         (
-            &HELLO,
+            &IMAGE,
             b"TVJ1\x01\x00\x06\x00\x00\x00\x0b\x01\x00\x00\x00\x01\x00\x01\x00\x00\x00\x00\x03\x00\x00\x00",
             Replayed::Legal(Some(0)),
         ),
         (
-            &HELLO,
+            &IMAGE,
             b"TVJ1\x01\x00\x07\x00\x00\x00\x0b\x01\x00\x00\x00\x00\x02\x00\x00\x00",
             Replayed::Illegal(1),
         ),
         (
-            &HELLO,
+            &IMAGE,
             b"TVJ1\x01\x00\x07\x00\x00\x00\x10\x02\x00\x01\x00\x00\x00",
             Replayed::Illegal(1),
         ),
@@ -142,7 +133,7 @@ fn journals_are_replayed(rt: HostRuntime) -> Result<(), Fail> {
         ),
     ];
     for (row, (image, file, want)) in rows.into_iter().enumerate() {
-        assert!(rt; image.len() <= 0x10_0000);
+        assert!(rt; image.len() <= FLAT_RAM_BYTES as usize);
         let found = replay_file(rt.alloc(), image, file)?;
         assert_eq!(rt; found, want, "row {row}");
     }
@@ -293,7 +284,7 @@ enum Turn {
 
 /// The flat machine with two harts.
 fn two_harts(alloc: Global) -> Result<Machine, Memory>
-    ensures { IfOk result (λ machine. (machine.ram ≡ 1_048_576) × IsValid machine) }
+    ensures { IfOk result (λ machine. (machine.ram ≡ FLAT_RAM_BYTES) × IsValid machine) }
 {
     let mut machine = Machine::flat(alloc)?;
     machine.harts = 2;
@@ -310,7 +301,7 @@ fn console(
     for word in words {
         image.extend_from_slice(&word.to_le_bytes())?;
     }
-    assert!(rt; image.len() <= 1_048_576);
+    assert!(rt; image.len() <= FLAT_RAM_BYTES as usize);
     let mut monitor = Monitor::new(rt.alloc(), &two_harts(rt.alloc())?, &image)?;
     for &turn in turns {
         let (entry, count) = match turn {

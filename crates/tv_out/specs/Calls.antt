@@ -1,5 +1,5 @@
 -- Calls whose failures an object tells beforehand.
-use Rattle.std.specs.Prelude.{ℕ, ◌+◌, ◌-◌, ◌^◌, ◌<◌, ◌≤◌, ◌≡◌, ◌⊎◌, List, Option, Some, None, Result, Ok, Err, min, Contains}
+use Rattle.std.specs.Prelude.{ℕ, ◌+◌, ◌-◌, ◌^◌, ◌<◌, ◌≤◌, ◌≡◌, ◌⊎◌, Bool, true, false, List, Option, Some, None, min, Contains}
 
 -- the calls of an object: how many were made so far, and the numbers, from 0, of those that fail
 pub record Calls : Type 0 where
@@ -19,9 +19,9 @@ abbrev pub IsFailing : Calls → Type 0
 IsFailing calls = Contains calls.failing calls.made ⊎ (2 ^ 64 - 1 ≤ calls.made)
 
 -- a call failed exactly where it was due to, and its object counted one fault then and none otherwise
-abbrev pub Foretold : {T E : Type 0} → Type 0 → ℕ → ℕ → Result T E → Type 0
-Foretold due before now (Ok _) = (¬ due) × (now ≡ before)
-Foretold due before now (Err _) = due × (now ≡ next_count before)
+abbrev pub Foretold : Type 0 → ℕ → ℕ → Bool → Type 0
+Foretold due before now false = (¬ due) × (now ≡ before)
+Foretold due before now true = due × (now ≡ next_count before)
 
 -- the calls after so many more, their number not bounded
 abbrev pub calls_ahead : Calls → ℕ → Calls
@@ -34,9 +34,9 @@ pub record FailsWithin (calls : Calls) (count : ℕ) : Type 0 where
   pub fails : IsFailing (calls_ahead calls ahead)
 
 -- where calls are told, a call failed exactly by its number
-abbrev pub FollowsCalls : {T E : Type 0} → Option Calls → ℕ → ℕ → Result T E → Type 0
-FollowsCalls None before now result = Unit {0}
-FollowsCalls (Some calls) before now result = Foretold (IsFailing calls) before now result
+abbrev pub FollowsCalls : Option Calls → ℕ → ℕ → Bool → Type 0
+FollowsCalls None before now fails = Unit {0}
+FollowsCalls (Some calls) before now fails = Foretold (IsFailing calls) before now fails
 
 -- no call was made yet, where calls are told
 abbrev pub IsUncalled : Option Calls → Type 0

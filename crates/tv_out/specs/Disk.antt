@@ -1,5 +1,5 @@
 -- What a disk tells of itself, and what its calls do to it.
-use Rattle.std.specs.Prelude.{ℕ, ◌+◌, ◌-◌, ◌*◌, ◌<◌, ◌≡◌, ◌⊎◌, ◌++◌, List, Option, Some, None, Result, Ok, Err, take, drop, length, replicate}
+use Rattle.std.specs.Prelude.{ℕ, ◌+◌, ◌-◌, ◌*◌, ◌<◌, ◌≡◌, ◌⊎◌, ◌++◌, Bool, List, Option, Some, None, Result, Ok, Err, take, drop, length, replicate}
 use Rattle.tv_out.specs.Calls.{RoomScript, IsFailing, IsUncalled, Foretold, calls_of}
 
 -- the bytes of all sectors; how many writes and changes of length were done since the disk was opened; and how many of
@@ -67,10 +67,10 @@ sectors_after (Ok _) asked before = asked
 sectors_after (Err _) asked before = before
 
 -- where a script is told, a change of length failed exactly by the number of the call, or for want of room
-abbrev pub FollowsSetLen : {T E : Type 0} → Option RoomScript → ℕ → ℕ → ℕ → Result T E → Type 0
-FollowsSetLen None asked before now result = Unit {0}
-FollowsSetLen (Some script) asked before now result =
-    Foretold (IsFailing script.calls ⊎ (script.room < asked)) before now result
+abbrev pub FollowsSetLen : Option RoomScript → ℕ → ℕ → ℕ → Bool → Type 0
+FollowsSetLen None asked before now fails = Unit {0}
+FollowsSetLen (Some script) asked before now fails =
+    Foretold (IsFailing script.calls ⊎ (script.room < asked)) before now fails
 
 -- nothing was changed yet, where that is told
 abbrev pub IsUnchangedYet : Option DiskContent → Type 0

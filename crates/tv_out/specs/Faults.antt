@@ -1,15 +1,15 @@
 -- Counts of faults: what an object outside the program says of its own failures.
-use Rattle.std.specs.Prelude.{ℕ, ◌+◌, ◌-◌, ◌^◌, ◌≤◌, ◌≡◌, ◌≢◌, List, Option, Some, None, Result, min}
-use Rattle.std.specs.Prelude.{Contains, OnErr}
+use Rattle.std.specs.Prelude.{ℕ, ◌+◌, ◌-◌, ◌^◌, ◌≤◌, ◌≡◌, ◌≢◌, Bool, List, Option, Some, None, Contains, min}
+use Rattle.std.specs.Bool.{OnTrue}
 
 -- a count of faults rose from before to now; a count at its last value, 2 ^ 64 - 1, stays there and counts as risen
 abbrev pub Rose : ℕ → ℕ → Type 0
 Rose before now = min (before + 1) (2 ^ 64 - 1) ≤ now
 
--- a count never falls, and an answer Err comes only where it rose
-pub record HasCause {T E : Type 0} (before now : ℕ) (result : Result T E) : Type 0 where
+-- a count never falls, and a call fails only where it rose
+pub record HasCause (before now : ℕ) (fails : Bool) : Type 0 where
   pub later : before ≤ now
-  pub failed : OnErr result (Rose before now)
+  pub failed : OnTrue fails (Rose before now)
 
 -- the counts of faults by name that a store may tell: the names that it knows, and the count of each name; the names
 -- that it doesn't know share one count

@@ -1,5 +1,5 @@
 -- What an object outside the program tells of itself: its count of faults always, and what it holds where it can.
-use Rattle.std.specs.Prelude.{ℕ, ◌+◌, ◌-◌, ◌*◌, ◌<◌, ◌≤◌, ◌≡◌, ◌⊎◌, ◌++◌, List, [], Option, Some, None, Result, Ok, Err, take, length, min, IsSome}
+use Rattle.std.specs.Prelude.{ℕ, ◌+◌, ◌-◌, ◌*◌, ◌<◌, ◌≤◌, ◌≡◌, ◌⊎◌, ◌++◌, Bool, List, [], Option, Some, None, Result, Ok, Err, take, length, min, IsSome}
 use Rattle.std.specs.Option.{option_map}
 use Rattle.tv_out.specs.declared.Short.{Short}
 use Rattle.tv_out.specs.Faults.{NameFaults}
@@ -72,6 +72,16 @@ pub record IsCut (bytes : List ℕ) (old new : Option (List ℕ)) : Type 0 where
   pub parts : bytes ≡ front ++ rest
   pub told : new ≡ appended old front
 
+-- no put failed, where a sink tells which do: then it goes on to tell, and counted no fault
+pub record IsSteady (old new : ToldSink) : Type 0 where
+  pub tells : IsSome old.script → IsSome new.script
+  pub sound : IsSome old.script → new.faults ≡ old.faults
+
+-- all of these bytes went out
+pub record IsAllOut (bytes : List ℕ) (old new : ToldSink) : Type 0 where
+  pub told : new.bytes ≡ appended old.bytes bytes
+  pub steady : IsSteady old new
+
 -- these bytes stand before the rest, where it is told
 abbrev pub prepended : List ℕ → Option (List ℕ) → Option (List ℕ)
 prepended bytes told = option_map (λ rest. bytes ++ rest) told
@@ -138,10 +148,10 @@ FollowsTake (Some calls) left asked before now (Ok count) =
 FollowsTake (Some calls) left asked before now (Err _) = IsFailing calls × (now ≡ next_count before)
 
 -- where calls are told, a fill failed exactly by its number, or since too few bytes were left
-abbrev pub FollowsFill : {T E : Type 0} → Option Calls → Option (List ℕ) → ℕ → ℕ → ℕ → Result T E → Type 0
-FollowsFill None left asked before now result = Unit {0}
-FollowsFill (Some calls) left asked before now result =
-    Foretold (IsFailing calls ⊎ IsShortOf left asked) before now result
+abbrev pub FollowsFill : Option Calls → Option (List ℕ) → ℕ → ℕ → ℕ → Bool → Type 0
+FollowsFill None left asked before now fails = Unit {0}
+FollowsFill (Some calls) left asked before now fails =
+    Foretold (IsFailing calls ⊎ IsShortOf left asked) before now fails
 
 -- with a script the bytes are told too
 abbrev pub TellsBytes : Option RoomScript → Option (List ℕ) → Type 0

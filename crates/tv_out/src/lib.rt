@@ -8,12 +8,16 @@
 
 ghost use Rattle.std.specs.Prelude.{◌≡◌, ◌<◌, ◌≤◌, ◌^◌, IfOk, IfErr, OnOk, OnErr, length, take};
 ghost use Rattle.std.specs.Option.{option_map};
+ghost use Rattle.std.specs.Result.{is_err, result_map_both};
 ghost use Rattle.tv_out.specs.Faults.{Rose, HasCause, NameRose, StaysElsewhere};
 ghost use Rattle.tv_out.specs.Calls.{with_call, after_call, calls_of, FollowsCalls};
 ghost use Rattle.tv_out.specs.Told.{appended, prepended, gone, Holds, IsLonger, IsSpent, FollowsPut, FollowsTake, FollowsFill, IsCreatedSink, IsOpenedSource};
 ghost use Rattle.tv_out.specs.Disk.{IsWhole, HoldsSector, after_write, after_flush, after_set_len, sectors_after, FollowsSetLen, IsOpenedDisk};
-ghost use Rattle.tv_out.specs.Asked.{IsAskedFor, IsGiven, after_load, after_disk, after_sink, after_source, FollowsLoad, FollowsOpening};
+ghost use Rattle.tv_out.specs.Asked.{HasOpened, disks, sinks, sources, after_load, FollowsLoad};
 
+mod output;
+
+pub use output::put_all;
 use std::alloc::Global;
 pub use tv_base::Failed;
 
@@ -78,33 +82,21 @@ pub trait Store {
     /// # Errors
     /// `Failed` where the store failed at this name.
     fn open_disk(&mut self, name: &str, readonly: bool) -> Result<Self::Disk, Failed>
-        ensures opened { IfOk result (λ disk. IsOpenedDisk (Self.Disk.told disk)) }
-        ensures given { IfOk result (λ disk. IsGiven (told self.old).script (λ script. script.disks) name.now (Self.Disk.told disk)) }
-        ensures asked { IsAskedFor name.now (told self.old) (told self.new) result }
-        ensures follows { FollowsOpening (told self.old).script (λ script. script.disks) name.now (told self.old) (told self.new) result }
-        ensures script { (told self.new).script ≡ option_map (after_disk result name.now) (told self.old).script };
+        ensures opened { HasOpened disks IsOpenedDisk name.now (told self.old) (told self.new) (result_map_both Self.Disk.told (λ failed. failed) result) };
 
     /// Creates the file `name`, or empties the one that is there, for bytes to be put to.
     ///
     /// # Errors
     /// `Failed` where the store failed at this name.
     fn create(&mut self, name: &str) -> Result<Self::Sink, Failed>
-        ensures created { IfOk result (λ sink. IsCreatedSink (Self.Sink.told sink)) }
-        ensures given { IfOk result (λ sink. IsGiven (told self.old).script (λ script. script.sinks) name.now (Self.Sink.told sink)) }
-        ensures asked { IsAskedFor name.now (told self.old) (told self.new) result }
-        ensures follows { FollowsOpening (told self.old).script (λ script. script.sinks) name.now (told self.old) (told self.new) result }
-        ensures script { (told self.new).script ≡ option_map (after_sink result name.now) (told self.old).script };
+        ensures opened { HasOpened sinks IsCreatedSink name.now (told self.old) (told self.new) (result_map_both Self.Sink.told (λ failed. failed) result) };
 
     /// Opens the file `name`, for bytes to be taken from.
     ///
     /// # Errors
     /// `Failed` where the store failed at this name.
     fn open_source(&mut self, name: &str) -> Result<Self::Source, Failed>
-        ensures opened { IfOk result (λ source. IsOpenedSource (Self.Source.told source)) }
-        ensures given { IfOk result (λ source. IsGiven (told self.old).script (λ script. script.sources) name.now (Self.Source.told source)) }
-        ensures asked { IsAskedFor name.now (told self.old) (told self.new) result }
-        ensures follows { FollowsOpening (told self.old).script (λ script. script.sources) name.now (told self.old) (told self.new) result }
-        ensures script { (told self.new).script ≡ option_map (after_source result name.now) (told self.old).script };
+        ensures opened { HasOpened sources IsOpenedSource name.now (told self.old) (told self.new) (result_map_both Self.Source.told (λ failed. failed) result) };
 }
 
 /// Whole sectors of 512 bytes each, at most 2^31 of them.
@@ -133,8 +125,8 @@ pub trait Disk {
         ensures ok { OnOk result (HoldsSector (told self.old).content sector out.new) }
         ensures sectors { (told self.new).sectors ≡ (told self.old).sectors }
         ensures content { (told self.new).content ≡ (told self.old).content }
-        ensures cause { HasCause (told self.old).faults (told self.new).faults result }
-        ensures follows { FollowsCalls (calls_of (told self.old).script) (told self.old).faults (told self.new).faults result }
+        ensures cause { HasCause (told self.old).faults (told self.new).faults (is_err result) }
+        ensures follows { FollowsCalls (calls_of (told self.old).script) (told self.old).faults (told self.new).faults (is_err result) }
         ensures script { (told self.new).script ≡ option_map after_call (told self.old).script };
 
     /// Writes a sector.
@@ -145,8 +137,8 @@ pub trait Disk {
         requires { sector < (told self.old).sectors }
         ensures sectors { (told self.new).sectors ≡ (told self.old).sectors }
         ensures content { (told self.new).content ≡ option_map (after_write result sector bytes.now) (told self.old).content }
-        ensures cause { HasCause (told self.old).faults (told self.new).faults result }
-        ensures follows { FollowsCalls (calls_of (told self.old).script) (told self.old).faults (told self.new).faults result }
+        ensures cause { HasCause (told self.old).faults (told self.new).faults (is_err result) }
+        ensures follows { FollowsCalls (calls_of (told self.old).script) (told self.old).faults (told self.new).faults (is_err result) }
         ensures script { (told self.new).script ≡ option_map after_call (told self.old).script };
 
     /// Makes the changes so far lasting.
@@ -156,8 +148,8 @@ pub trait Disk {
     fn flush(&mut self) -> Result<(), Failed>
         ensures sectors { (told self.new).sectors ≡ (told self.old).sectors }
         ensures content { (told self.new).content ≡ option_map (after_flush result) (told self.old).content }
-        ensures cause { HasCause (told self.old).faults (told self.new).faults result }
-        ensures follows { FollowsCalls (calls_of (told self.old).script) (told self.old).faults (told self.new).faults result }
+        ensures cause { HasCause (told self.old).faults (told self.new).faults (is_err result) }
+        ensures follows { FollowsCalls (calls_of (told self.old).script) (told self.old).faults (told self.new).faults (is_err result) }
         ensures script { (told self.new).script ≡ option_map after_call (told self.old).script };
 
     /// Changes the number of sectors, to 2^31 at most. New sectors are zeros.
@@ -168,8 +160,8 @@ pub trait Disk {
         requires { sectors ≤ 2 ^ 31 }
         ensures sectors { (told self.new).sectors ≡ sectors_after result sectors (told self.old).sectors }
         ensures content { (told self.new).content ≡ option_map (after_set_len result sectors) (told self.old).content }
-        ensures cause { HasCause (told self.old).faults (told self.new).faults result }
-        ensures follows { FollowsSetLen (told self.old).script sectors (told self.old).faults (told self.new).faults result }
+        ensures cause { HasCause (told self.old).faults (told self.new).faults (is_err result) }
+        ensures follows { FollowsSetLen (told self.old).script sectors (told self.old).faults (told self.new).faults (is_err result) }
         ensures script { (told self.new).script ≡ option_map after_call (told self.old).script };
 }
 
@@ -193,7 +185,7 @@ pub trait Sink {
         requires fits { length bytes.now ≤ 4096 }
         ensures told { (told self.new).bytes ≡ appended (told self.old).bytes (gone result bytes.now) }
         ensures taken { IfErr result (λ short. short.taken ≤ length bytes.now) }
-        ensures cause { HasCause (told self.old).faults (told self.new).faults result }
+        ensures cause { HasCause (told self.old).faults (told self.new).faults (is_err result) }
         ensures follows { FollowsPut (told self.old).script (told self.old).bytes (length bytes.now) (told self.old).faults (told self.new).faults result }
         ensures script { (told self.new).script ≡ option_map after_call (told self.old).script };
 }
@@ -219,7 +211,7 @@ pub trait Source {
         ensures ok { IfOk result (λ count. (told self.old).left ≡ prepended (take count out.new) (told self.new).left) }
         ensures end { IfOk result (λ count. count ≡ 0 → 0 < length out.old → IsSpent (told self.old).left) }
         ensures err { OnErr result ((told self.new).left ≡ (told self.old).left) }
-        ensures cause { HasCause (told self.old).faults (told self.new).faults result }
+        ensures cause { HasCause (told self.old).faults (told self.new).faults (is_err result) }
         ensures follows { FollowsTake (told self.old).calls (told self.old).left (length out.old) (told self.old).faults (told self.new).faults result }
         ensures calls { (told self.new).calls ≡ option_map with_call (told self.old).calls };
 }
@@ -244,7 +236,7 @@ pub trait Entropy {
         ensures left { OnOk result ((told self.old).left ≡ prepended out.new (told self.new).left) }
         ensures err { OnErr result ((told self.new).bytes ≡ (told self.old).bytes) }
         ensures stays { OnErr result ((told self.new).left ≡ (told self.old).left) }
-        ensures cause { HasCause (told self.old).faults (told self.new).faults result }
-        ensures follows { FollowsFill (told self.old).calls (told self.old).left (length out.old) (told self.old).faults (told self.new).faults result }
+        ensures cause { HasCause (told self.old).faults (told self.new).faults (is_err result) }
+        ensures follows { FollowsFill (told self.old).calls (told self.old).left (length out.old) (told self.old).faults (told self.new).faults (is_err result) }
         ensures calls { (told self.new).calls ≡ option_map with_call (told self.old).calls };
 }

@@ -2,14 +2,15 @@
 -- chapter "RV32I", "Load and Store Instructions").
 use Rattle.std.specs.Prelude.{◌≡◌, ◌==◌, ◌&&◌, ◌||◌, ℕ, ◌+◌, ◌-◌, ◌*◌, ◌%◌, ◌^◌, ◌<◌, ◌≤◌, nat_le, if◌then◌else◌, Bool, List, ◌++◌, length, take, drop, replicate, Option, Some, None}
 use Rattle.byteorder.specs.Endian.{little_number, little_bytes}
+use Rattle.tv_base.specs.declared.limits.TheConstants.{RAM_BASE, RAM_BYTES, RAM_BYTES_LEAST, PAGE_BYTES}
 
 -- the numbers of bytes that memory can have: whole pages, from 64 KiB to 256 MiB
 abbrev pub IsRamSize : ℕ → Type 0
-IsRamSize bytes = (65536 ≤ bytes) × (bytes ≤ 268435456) × (bytes % 4096 ≡ 0)
+IsRamSize bytes = (RAM_BYTES_LEAST ≤ bytes) × (bytes ≤ RAM_BYTES) × (bytes % PAGE_BYTES ≡ 0)
 
 -- the address of the first byte
 abbrev pub ram_base : ℕ
-ram_base = 0x80000000
+ram_base = RAM_BASE
 
 -- the offset of an address from the first byte
 abbrev pub ram_offset : ℕ → ℕ
@@ -38,7 +39,7 @@ with_bytes ram addr bytes =
 
 -- the address of a page's first byte; pages are numbered by address
 abbrev pub page_base : ℕ → ℕ
-page_base page = page * 4096
+page_base page = page * PAGE_BYTES
 
 -- memory with zeros in each byte of a page
 abbrev pub with_zero_page : List ℕ → ℕ → List ℕ

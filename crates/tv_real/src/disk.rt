@@ -31,10 +31,7 @@ impl<F: Seek + Drop> FileDisk<F> {
     pub fn new(mut file: F) -> io::Result<FileDisk<F>>
         ensures { IfOk result (λ disk. disk.faults ≡ 0) }
     {
-        let bytes = match file.seek(SeekFrom::End(0)) {
-            Ok(bytes) => bytes,
-            Err(error) => return Err(error),
-        };
+        let bytes = file.seek(SeekFrom::End(0))?;
         Ok(FileDisk {
             file,
             sectors: whole_sectors(bytes),
@@ -115,10 +112,9 @@ fn resize<F: OpenFile>(file: &F, before: u32, sectors: u32) -> io::Result<()> {
 
 /// Goes to a sector.
 fn seek_sector<F: Seek>(file: &mut F, sector: u32) -> Result<(), Failed> {
-    match file.seek(SeekFrom::Start(SECTOR_BYTES * u64::from(sector))) {
-        Ok(_) => Ok(()),
-        Err(_) => Err(Failed),
-    }
+    file.seek(SeekFrom::Start(SECTOR_BYTES * u64::from(sector)))
+        .map_err(|_| Failed)?;
+    Ok(())
 }
 
 /// Reads a sector.
@@ -127,10 +123,8 @@ fn read_sector<F: Read + Seek>(
     sector: u32,
     out: &mut [u8; 512],
 ) -> Result<(), Failed> {
-    match seek_sector(file, sector) {
-        Ok(()) => read_whole(file, out),
-        Err(failed) => Err(failed),
-    }
+    seek_sector(file, sector)?;
+    read_whole(file, out)
 }
 
 /// Writes a sector.
@@ -139,14 +133,9 @@ fn write_sector<F: Write + Seek>(
     sector: u32,
     bytes: &[u8; 512],
 ) -> Result<(), Failed> {
-    match seek_sector(file, sector) {
-        Ok(()) => {
-            if write_front(file, bytes) == bytes.len() {
-                Ok(())
-            } else {
-                Err(Failed)
-            }
-        }
-        Err(failed) => Err(failed),
+    seek_sector(file, sector)?;
+    if write_front(file, bytes) < bytes.len() {
+        return Err(Failed);
     }
+    Ok(())
 }

@@ -30,11 +30,11 @@ pub fn read_whole<F: Read>(file: &mut F, out: &mut [u8]) -> Result<(), Failed> {
         if filled == out.len() {
             break;
         }
-        match read_some(file, &mut out[filled..]) {
-            Ok(0) => return Err(Failed),
-            Ok(more) => filled += more,
-            Err(failed) => return Err(failed),
+        let more = read_some(file, &mut out[filled..])?;
+        if more == 0 {
+            return Err(Failed);
         }
+        filled += more;
     }
     Ok(())
 }

@@ -101,37 +101,28 @@ fn open_file<R: Files>(rt: &R, name: &str, readonly: bool) -> io::Result<R::File
 fn open_file_disk<R: Files>(rt: &R, name: &str, readonly: bool) -> io::Result<FileDisk<R::File>>
     ensures { IfOk result (λ disk. disk.faults ≡ 0) }
 {
-    match open_file(rt, name, readonly) {
-        Ok(file) => FileDisk::new(file),
-        Err(error) => Err(error),
-    }
+    FileDisk::new(open_file(rt, name, readonly)?)
 }
 
 /// The bytes of a file, of which at most one more than `most` is read.
 fn read_file<R: Files>(rt: &R, alloc: Global, name: &str, most: usize) -> Result<Vec<u8>, LoadFault>
     ensures { IfOk result (λ bytes. length bytes.items ≤ most) }
 {
-    let mut file = match fs::open(rt, name) {
-        Ok(file) => file,
-        Err(_) => return Err(LoadFault::Failed),
-    };
+    let mut file = fs::open(rt, name).map_err(|_| LoadFault::Failed)?;
     let mut bytes = Vec::new(alloc);
     let mut piece = [0u8; 4096];
     for _ in 0..u64::MAX {
         let room = (most - bytes.len()).saturating_add(1).min(piece.len());
-        match read_some(&mut file, &mut piece[..room]) {
-            Ok(0) => return Ok(bytes),
-            Ok(more) => {
-                if more > most - bytes.len() {
-                    return Err(LoadFault::TooLong);
-                }
-                match bytes.extend_from_slice(&piece[..more]) {
-                    Ok(()) => {}
-                    Err(_) => return Err(LoadFault::Memory),
-                }
-            }
-            Err(_) => return Err(LoadFault::Failed),
+        let more = read_some(&mut file, &mut piece[..room]).map_err(|_| LoadFault::Failed)?;
+        if more == 0 {
+            return Ok(bytes);
         }
+        if more > most - bytes.len() {
+            return Err(LoadFault::TooLong);
+        }
+        bytes
+            .extend_from_slice(&piece[..more])
+            .map_err(|_| LoadFault::Memory)?;
     }
     Err(LoadFault::Failed)
 }

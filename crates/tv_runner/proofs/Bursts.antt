@@ -28,7 +28,7 @@ use Rattle.tv_spec.specs.State.{State}
 use Rattle.tv_spec.specs.Step.{made, done, event_of}
 use Rattle.tv_spec.proofs.SoFar.{so_far-more}
 use Rattle.tv_runner.specs.Parts.{Held, solo_at, IsPart, IsWithin}
-use Rattle.tv_runner.proofs.Events.{stops-in}
+use Rattle.tv_runner.proofs.Events.{stops-in, kept-all}
 use Rattle.tv_runner.proofs.Rounds.{onward-twice, onward-round}
 
 -- a run so far with so many events of a hart more
@@ -200,10 +200,7 @@ pub kept-some : (journal later : JournalState) (hart count : ℕ) (answer : Bool
     → ◌≡◌ {A = Bool × JournalState} (answer, later) (pushed_all journal (replicate count (entry.Hart hart)))
     → later ≡ record journal { entries = journal.entries ++ replicate count (entry.Hart hart) }
 kept-some journal later hart zero answer some room is = absurd (omega (arith, some))
-kept-some journal later hart (suc n) answer some room is =
-    let all : ◌≡◌ {A = Bool × JournalState} (pushed_all journal (replicate (suc n) (entry.Hart hart))) (true, record journal { entries = journal.entries ++ replicate (suc n) (entry.Hart hart) }) =
-    rw (room-for-some journal hart n room) refl in
-    ap (λ (p : Bool × JournalState). p.1) (is ∙ all)
+kept-some journal later hart (suc n) answer some room is = kept-all journal later (replicate (suc n) (entry.Hart hart)) answer (room-for-some journal hart n room) is
 
 -- the same as the code comes to it
 pub some-part : (old : Held) (later : GuestState) (kept : JournalState) (shown_bytes : List ℕ) (hart most count : ℕ) (seen : Shown) (result : Option Stop)

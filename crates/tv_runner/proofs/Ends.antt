@@ -7,7 +7,7 @@ use Rattle.tv_base.specs.declared.Why.{Why}
 use Rattle.tv_base.specs.declared.Why.TheVariants as why
 use Rattle.tv_journal.specs.Grammar.{cause_byte}
 use Rattle.tv_journal.specs.Journals.{JournalState}
-use Rattle.tv_machine_file.specs.declared.machine.Machine.{Machine}
+use Rattle.tv_machine.specs.declared.machine.Machine.{Machine}
 use Rattle.tv_model.specs.Guest.{state_of, IsFirst}
 use Rattle.tv_model.specs.GuestState.{GuestState}
 use Rattle.tv_out.specs.Told.{ToldSink}
@@ -87,12 +87,12 @@ run-cause machine image solo None so_far mode_is = cause-of-outer machine image 
 run-cause machine image solo (Some stop.Full) so_far mode_is = cause-of-outer machine image solo why.Full so_far mode_is
 run-cause machine image solo (Some (stop.Ended cause)) so_far mode_is = sym so_far.cause_is ∙ ap cause_in mode_is
 
-pub run-of : (machine : Machine) (image : List ℕ) (guest later : GuestState) (journal kept closed : JournalState) (stopped : Option Stop) (lost : Bool) (told now : ToldSink)
+pub run-of : (machine : Machine) (image : List ℕ) (guest later : GuestState) (journal kept closed : JournalState) (ring : List ℕ) (stopped : Option Stop) (lost : Bool) (told now : ToldSink)
     → IsFirst guest machine image → journal.entries ≡ [] → journal.record_room ≡ machine.journal_entries
-    → AreRounds (record { guest = guest; journal = journal; bytes = [] }) (record { guest = later; journal = kept; bytes = [] }) stopped lost told now
+    → AreRounds (record { guest = guest; journal = journal; bytes = [] }) (record { guest = later; journal = kept; bytes = ring }) stopped lost told now
     → closed ≡ record kept { outer = outer_by kept.entries stopped }
     → IsRun machine image (record { journal = closed; stop = stopped; lost = lost }) told now
-run-of machine image guest later journal kept closed stopped lost told now first empty room are closed_is =
+run-of machine image guest later journal kept closed ring stopped lost told now first empty room are closed_is =
     let old : Held = record { guest = guest; journal = journal; bytes = [] } in
     let new : Held = record { guest = later; journal = kept; bytes = are.bytes } in
     let solo : Solo = solo_at new [] in

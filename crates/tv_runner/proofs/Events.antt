@@ -1,7 +1,8 @@
 -- A tick of the engine is that of the schedule.
 use Rattle.std.proofs.Common.{◌≡◌, ℕ, Bool, true, false, List, [], ◌∷◌, ◌++◌, Option, None, refl, ap, sym, ◌∙◌, subst, append-nil, arith}
 use Rattle.tv_journal.specs.declared.Entry.TheVariants as entry
-use Rattle.tv_journal.specs.Journals.{JournalState, has_room}
+use Rattle.tv_journal.specs.declared.Entry.{Entry}
+use Rattle.tv_journal.specs.Journals.{JournalState, has_room, has_room_for, pushed_all}
 use Rattle.tv_model.specs.Guest.{state_of, IsMade, IsAnswered}
 use Rattle.tv_model.specs.GuestState.{GuestState}
 use Rattle.tv_spec.specs.declared.Mode.{Mode}
@@ -18,6 +19,13 @@ use Rattle.tv_runner.specs.Parts.{Held, solo_at, IsPart, StopsIn}
 pub stops-in : (now : Mode) → StopsIn (stopped_by now) now
 stops-in mode.Running = refl
 stops-in (mode.Ending cause) = refl
+
+-- entries for which there is room are kept
+pub kept-all : (journal later : JournalState) (es : List Entry) (answer : Bool) → has_room_for journal es ≡ true
+    → ◌≡◌ {A = Bool × JournalState} (answer, later) (pushed_all journal es) → later ≡ record journal { entries = journal.entries ++ es }
+kept-all journal later es answer room is =
+    let all : ◌≡◌ {A = Bool × JournalState} (pushed_all journal es) (true, record journal { entries = journal.entries ++ es }) = rw room refl in
+    ap (λ (p : Bool × JournalState). p.1) (is ∙ all)
 
 pub tick-made : (g later : GuestState) (journal kept : JournalState) (bytes : List ℕ) (before : List ℕ)
     → IsMade g later (made (entry.Tick 64)) → kept ≡ record journal { entries = journal.entries ++ entry.Tick 64 ∷ [] }

@@ -1,6 +1,5 @@
 pub mod Bursts
 pub mod Events
 pub mod On
-pub mod Pieces
 pub mod Rounds
 pub mod Ends

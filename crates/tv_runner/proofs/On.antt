@@ -1,5 +1,8 @@
 -- The parts of the schedule one after another.
-use Rattle.std.proofs.Common.{◌≡◌, ◌<◌, ℕ, suc, List, Option, Some, None, refl, ap, sym, ◌∙◌}
+use Rattle.std.proofs.Common.{◌≡◌, ◌<◌, ℕ, suc, List, Option, Some, None, true, false, refl, ap, sym, ◌∙◌}
+use Rattle.std.specs.Prelude.{Result, Ok, Err}
+use Rattle.std.specs.Result.{is_err, result_err}
+use Rattle.std.proofs.lemmas.Bool.{false≢true}
 use Rattle.tv_spec.specs.declared.Mode.TheVariants as mode
 use Rattle.tv_spec.specs.declared.Stop.{Stop}
 use Rattle.tv_spec.specs.SoFar.{IsSoFar}
@@ -46,6 +49,16 @@ on-end whole rest old now on over = record {
   outer = on.outer;
   mode_is = on.runs;
 }
+
+-- what holds of a part that did not stop the run
+pub went-on : (P : Option Stop → Type 0) (result : Result (Unit {0}) Stop) → is_err result ≡ false → P (result_err result) → P None
+went-on P (Ok done) is holds = holds
+went-on P (Err stopped) is holds = absurd (false≢true (sym is))
+
+-- what follows of a part that stopped it
+pub stopped-there : (P Q : Option Stop → Type 0) (result : Result (Unit {0}) Stop) → is_err result ≡ true → ((stopped : Stop) → P (Some stopped) → Q (Some stopped)) → P (result_err result) → Q (result_err result)
+stopped-there P Q (Ok done) is follows holds = absurd (false≢true is)
+stopped-there P Q (Err stopped) is follows holds = follows stopped holds
 
 -- a turn with no event left
 pub turn-over : (setup : Setup) (room hart left : ℕ) (solo : Solo) → left ≡ 0 → turn setup room hart left solo ≡ (solo, None)

@@ -1,12 +1,12 @@
 -- Rounds one after another.
-use Rattle.std.proofs.Common.{◌≡◌, ℕ, zero, suc, ◌+◌, ◌-◌, ◌≤◌, ◌<◌, ◌*◌, length, List, [], ◌++◌, Option, Some, None, Bool, true, false, not, refl, ap, sym, ◌∙◌, subst, append_assoc, append-nil, arith}
+use Rattle.std.proofs.Common.{◌≡◌, ℕ, zero, suc, ◌+◌, ◌-◌, ◌≤◌, ◌<◌, ◌*◌, length, List, [], ◌++◌, Option, Some, None, Bool, true, false, refl, ap, sym, ◌∙◌, subst, append_assoc, append-nil, arith}
 use Rattle.tv_journal.specs.Journals.{JournalState}
 use Rattle.tv_model.specs.GuestState.{GuestState}
-use Rattle.std.specs.Prelude.{IfNone}
+use Rattle.std.specs.Prelude.{IfNone, Result, Ok, Err, OnOk, OnErr}
 use Rattle.std.specs.Option.{is_some}
-use Rattle.std.specs.Bool.{OnTrue, OnFalse}
+use Rattle.std.specs.Result.{is_err, result_err}
 use Rattle.tv_out.specs.Faults.{Rose}
-use Rattle.tv_out.specs.Told.{ToldSink, appended, IsCut}
+use Rattle.tv_out.specs.Told.{ToldSink, appended, IsCut, IsSteady}
 use Rattle.tv_out.proofs.Appended.{appended-twice, appended-nil}
 use Rattle.tv_spec.specs.declared.Mode.TheVariants as mode
 use Rattle.tv_spec.specs.declared.Stop.{Stop}
@@ -16,6 +16,7 @@ use Rattle.tv_spec.specs.Solo.{Solo, Going, onward, round, rounds}
 use Rattle.tv_spec.specs.State.{State}
 use Rattle.tv_runner.specs.Parts.{Held, solo_at, IsPart, IsRoundWithin}
 use Rattle.tv_runner.specs.Runs.{IsPut, AreRounds}
+use Rattle.tv_out.proofs.Pieces.{steady-on, steady-same}
 use Rattle.std.proofs.lemmas.Bool.{false≢true}
 use Rattle.tv_runner.proofs.On.{part-twice, limit-on}
 
@@ -99,6 +100,7 @@ pub record IsAt (old : Held) (guest : GuestState) (journal : JournalState) (befo
   pub entries : length journal.entries ≤ guest.events * 2
   pub told : now.bytes ≡ appended before.bytes bytes
   pub risen : before.faults ≤ now.faults
+  pub steady : IsSteady before now
 
 -- a round more by what it came to
 pub at-round : (old : Held) (guest later : GuestState) (journal kept : JournalState) (ring : List ℕ) (result : Option Stop) (before now : ToldSink)
@@ -116,8 +118,8 @@ at-round old guest later journal kept ring result before now at part =
 
 pub at-on : (old : Held) (guest later : GuestState) (journal kept : JournalState) (ring : List ℕ) (before now after : ToldSink) → IsAt old guest journal before now
     → IsPart (round guest.setup journal.record_room) (record { guest = guest; journal = journal; bytes = [] }) (record { guest = later; journal = kept; bytes = ring }) None
-    → IsRoundWithin guest later journal kept None → after.bytes ≡ appended now.bytes ring → now.faults ≤ after.faults → IsAt old later kept before after
-at-on old guest later journal kept ring before now after at part within told later_faults = record {
+    → IsRoundWithin guest later journal kept None → after.bytes ≡ appended now.bytes ring → now.faults ≤ after.faults → IsSteady now after → IsAt old later kept before after
+at-on old guest later journal kept ring before now after at part within told later_faults steady = record {
   rounds_so_far = suc at.rounds_so_far;
   bytes = at.bytes ++ ring;
   part = at-round old guest later journal kept ring None before now at part;
@@ -126,34 +128,39 @@ at-on old guest later journal kept ring before now after at part within told lat
   entries = omega (arith, at.entries, within.entries, within.some);
   told = told ∙ ap (λ t. appended t ring) at.told ∙ appended-twice before.bytes at.bytes ring;
   risen = omega (arith, at.risen, later_faults);
+  steady = steady-on before now after at.steady steady;
 }
 
-pub put-by : (went : Bool) (said ring : List ℕ) (before now after : ToldSink) → now.bytes ≡ appended before.bytes said → before.faults ≤ now.faults
-    → OnTrue went (after.bytes ≡ appended now.bytes ring) → OnFalse went (Rose now.faults after.faults) → OnFalse went (IsCut ring now.bytes after.bytes)
-    → IsPut (not went) said (said ++ ring) before after
-put-by true said ring before now after told risen all failed cut = all ∙ ap (λ t. appended t ring) told ∙ appended-twice before.bytes said ring
-put-by false said ring before now after told risen all failed cut = record {
+pub put-by : {E : Type 0} (went : Result (Unit {0}) E) (said ring : List ℕ) (before now after : ToldSink) → now.bytes ≡ appended before.bytes said → before.faults ≤ now.faults → IsSteady before now
+    → OnOk went (after.bytes ≡ appended now.bytes ring) → OnOk went (IsSteady now after) → OnErr went (Rose now.faults after.faults) → OnErr went (IsCut ring now.bytes after.bytes)
+    → IsPut (is_err went) said (said ++ ring) before after
+put-by (Ok done) said ring before now after told risen steady all steady_on failed cut = record {
+  told = all ∙ ap (λ t. appended t ring) told ∙ appended-twice before.bytes said ring;
+  steady = steady-on before now after steady steady_on;
+}
+put-by (Err fault) said ring before now after told risen steady all steady_on failed cut = record {
   last = ring;
   parts = refl;
   cut = subst (λ (t : Option (List ℕ)). IsCut ring t after.bytes) told cut;
   fault = omega (arith, failed, risen);
 }
 
-pub at-end : (old : Held) (guest later : GuestState) (journal kept : JournalState) (ring : List ℕ) (result : Option Stop) (went : Bool) (before now after : ToldSink)
-    → IsAt old guest journal before now
-    → IsPart (round guest.setup journal.record_room) (record { guest = guest; journal = journal; bytes = [] }) (record { guest = later; journal = kept; bytes = ring }) result
-    → IfNone result (not went ≡ true)
-    → OnTrue went (after.bytes ≡ appended now.bytes ring) → OnFalse went (Rose now.faults after.faults) → OnFalse went (IsCut ring now.bytes after.bytes)
-    → AreRounds old (record { guest = later; journal = kept; bytes = [] }) result (not went) before after
-at-end old guest later journal kept ring result went before now after at part stopped all failed cut = record {
+pub at-end : {E : Type 0} (old : Held) (guest later : GuestState) (journal kept : JournalState) (ring : List ℕ) (result : Result (Unit {0}) Stop) (stop : Option Stop)
+    (went : Result (Unit {0}) E) (lost : Bool) (before now after : ToldSink) → IsAt old guest journal before now
+    → IsPart (round guest.setup journal.record_room) (record { guest = guest; journal = journal; bytes = [] }) (record { guest = later; journal = kept; bytes = ring }) (result_err result)
+    → stop ≡ result_err result → lost ≡ is_err went → IfNone stop (lost ≡ true)
+    → OnOk went (after.bytes ≡ appended now.bytes ring) → OnOk went (IsSteady now after)
+    → OnErr went (Rose now.faults after.faults) → OnErr went (IsCut ring now.bytes after.bytes)
+    → AreRounds old (record { guest = later; journal = kept; bytes = ring }) stop lost before after
+at-end old guest later journal kept ring result stop went lost before now after at part stop_is lost_is stopped all steady failed cut = record {
   earlier = at.rounds_so_far;
   middle = record { guest = guest; journal = journal; bytes = at.bytes };
   bytes = at.bytes ++ ring;
   before = at.part;
-  part = at-round old guest later journal kept ring result before now at part;
+  part = rw stop_is (at-round old guest later journal kept ring (result_err result) before now at part);
   few = omega (arith, at.few, at.limit);
   stopped = stopped;
-  put = put-by went at.bytes ring before now after at.told at.risen all failed cut;
+  put = rw lost_is (put-by went at.bytes ring before now after at.told at.risen at.steady all steady failed cut);
 }
 
 -- no round
@@ -180,21 +187,17 @@ at-start old now runs new limit empty = record {
   entries = rw empty (omega arith);
   told = sym (appended-nil now.bytes);
   risen = omega arith;
+  steady = steady-same now;
 }
 
 pub some-stopped : (stop : Option Stop) (lost : Bool) → is_some stop ≡ true → IfNone stop (lost ≡ true)
 some-stopped None lost is = absurd (false≢true is)
 some-stopped (Some stop) lost is = tt
 
--- where a run did not stop
-pub went-on : (P : Option Stop → Type 0) (stop : Option Stop) → is_some stop ≡ false → P stop → P None
-went-on P None is holds = holds
-went-on P (Some stop) is holds = absurd (false≢true (sym is))
-
 -- where no byte was lost
-pub went-out : (P : Type 0) (went : Bool) → went ≡ true → OnTrue went P → P
-went-out P true is holds = holds
-went-out P false is holds = absurd (false≢true is)
+pub went-out : {E : Type 0} (P : Type 0) (went : Result (Unit {0}) E) → is_err went ≡ false → OnOk went P → P
+went-out P (Ok done) is holds = holds
+went-out P (Err fault) is holds = absurd (false≢true (sym is))
 
 pub lost-stopped : (stop : Option Stop) (lost : Bool) → lost ≡ true → IfNone stop (lost ≡ true)
 lost-stopped None lost is = is

@@ -1,7 +1,8 @@
 -- The engine of runs on one thread, part by part: what it holds is a run so far, and each part is that of the schedule.
-use Rattle.std.specs.Prelude.{◌≡◌, ℕ, ◌+◌, ◌*◌, ◌<◌, ◌≤◌, false, ◌++◌, List, length, Option, Some, None, IfNone, Result, Ok, Err}
+use Rattle.std.specs.Prelude.{◌≡◌, ℕ, ◌+◌, ◌*◌, ◌<◌, ◌≤◌, false, ◌++◌, List, [], length, Option, Some, None, IfNone, Result, Ok, Err}
 use Rattle.tv_journal.specs.Journals.{JournalState}
-use Rattle.tv_model.specs.Guest.{state_of}
+use Rattle.tv_machine.specs.declared.machine.Machine.{Machine}
+use Rattle.tv_model.specs.Guest.{state_of, IsFirst}
 use Rattle.tv_model.specs.GuestState.{GuestState}
 use Rattle.tv_spec.specs.declared.Mode.{Mode}
 use Rattle.tv_spec.specs.declared.Mode.TheVariants as mode
@@ -10,12 +11,21 @@ use Rattle.tv_spec.specs.declared.Stop.TheVariants as stop
 use Rattle.tv_spec.specs.SoFar.{IsSoFar}
 use Rattle.tv_spec.specs.Solo.{Solo, Going, turn}
 use Rattle.tv_spec.specs.State.{State}
+use Rattle.tv_runner.specs.declared.engine.Engine.{Engine}
 
--- what the engine holds: the machine, the journal, and the bytes of the round
+-- what an engine holds: the machine, the journal, and the bytes of the round
 pub record Held : Type 0 where
   pub guest : GuestState
   pub journal : JournalState
   pub bytes : List ℕ
+
+abbrev pub held : Engine → Held
+held engine = record { guest = engine.guest; journal = engine.journal; bytes = engine.bytes.items }
+
+-- the engine of a machine with an image, before its first event
+pub record IsNew (machine : Machine) (image : List ℕ) (engine : Engine) : Type 0 where
+  pub guest : IsFirst engine.guest machine image
+  pub journal : engine.journal ≡ record { entries = []; outer = None; record_room = machine.journal_entries; payload_room = machine.journal_bytes }
 
 -- the run so far that it is, with the bytes of the rounds before
 abbrev pub solo_at : Held → List ℕ → Solo

@@ -3,9 +3,9 @@ use Rattle.std.specs.Prelude.{◌≡◌, ℕ, suc, ◌≤◌, ◌++◌, List, le
 use Rattle.tv_base.specs.declared.Why.{Why}
 use Rattle.tv_base.specs.declared.Why.TheVariants as why
 use Rattle.tv_journal.specs.declared.Entry.{Entry}
-use Rattle.tv_machine_file.specs.declared.machine.Machine.{Machine}
+use Rattle.tv_machine.specs.declared.machine.Machine.{Machine}
 use Rattle.tv_out.specs.Faults.{Rose}
-use Rattle.tv_out.specs.Told.{ToldSink, appended, IsCut}
+use Rattle.tv_out.specs.Told.{ToldSink, appended, IsAllOut, IsCut}
 use Rattle.tv_spec.specs.declared.Stop.{Stop}
 use Rattle.tv_spec.specs.declared.Stop.TheVariants as stop
 use Rattle.tv_spec.specs.Legal.{IsLegalRun, with_outer}
@@ -17,17 +17,17 @@ use Rattle.tv_spec.specs.Step.{made}
 use Rattle.tv_runner.specs.declared.run.Ran.{Ran}
 use Rattle.tv_runner.specs.Parts.{Held, IsPart}
 
--- bytes of the last of some rounds went lost: those of the rounds before went out, and a front of its own
+-- bytes of the last of some rounds were lost: those of the rounds before went out, and a front of its own
 pub record IsLostIn (before bytes : List ℕ) (old new : ToldSink) : Type 0 where
   pub last : List ℕ
   pub parts : bytes ≡ before ++ last
   pub cut : IsCut last (appended old.bytes before) new.bytes
   pub fault : Rose old.faults new.faults
 
--- all bytes went out, or some of the last round went lost
+-- all bytes went out, or some of the last round were lost
 abbrev pub IsPut : Bool → List ℕ → List ℕ → ToldSink → ToldSink → Type 0
 IsPut true before bytes old new = IsLostIn before bytes old new
-IsPut false before bytes old new = new.bytes ≡ appended old.bytes bytes
+IsPut false before bytes old new = IsAllOut bytes old new
 
 -- so many rounds and one more were carried out, with these bytes before the last one
 pub record AreRounds (old new : Held) (stop : Option Stop) (lost : Bool) (told now : ToldSink) : Type 0 where
@@ -40,7 +40,7 @@ pub record AreRounds (old new : Held) (stop : Option Stop) (lost : Bool) (told n
   pub stopped : IfNone stop (lost ≡ true)
   pub put : IsPut lost middle.bytes bytes told now
 
--- the outer end: that of the stop, or that bytes went lost in a run that had not stopped
+-- the outer end: that of the stop, or that bytes were lost in a run that had not stopped
 abbrev pub outer_by : List Entry → Option Stop → Option (ℕ × Why)
 outer_by entries None = Some (length entries, why.DebugLost)
 outer_by entries (Some stopped) = outer_of_stop entries stopped
@@ -52,7 +52,7 @@ cause_by (Some (stop.Ended cause)) = cause
 cause_by (Some stop.Full) = why.Full
 
 -- a run of a machine with an image: so many rounds of the schedule, which are all of it where it stopped; and where it did
--- not stop, bytes went lost
+-- not stop, bytes were lost
 pub record IsRun (machine : Machine) (image : List ℕ) (ran : Ran) (old new : ToldSink) : Type 0 where
   pub earlier : ℕ
   pub middle : Solo

@@ -1,22 +1,18 @@
 //! Whole runs over sinks in memory, with values worked out by hand.
 
 ghost use Rattle.std.specs.Prelude.{◌≡◌, ◌≤◌, IfOk};
-ghost use Rattle.tv_machine_file.specs.Valid.{IsValid};
+ghost use Rattle.tv_machine.specs.Valid.{IsValid};
 
 use super::{Ran, solo};
 use std::alloc::Global;
 use std::process::Abort;
 use std::test::Fail;
-use tv_base::{Memory, Why};
+use tv_base::{FLAT_RAM_BYTES, Memory, Why};
 use tv_fake::MemorySink;
-use tv_machine_file::Machine;
+use tv_fake::first_run::{IMAGE_WORDS, OUTPUT};
+use tv_machine::Machine;
 use tv_model::{Replayed, replay};
 use tv_spec::Stop;
-
-/// The image that puts `A` and switches the machine off.
-const HELLO: [u32; 7] = [
-    0x100002b7, 0x04100313, 0x00628023, 0x001002b7, 0x00005337, 0x55530313, 0x0062a023,
-];
 
 /// The image that puts `A` and then jumps to itself.
 const PUT_AND_LOOP: [u32; 4] = [0x100002b7, 0x04100313, 0x00628023, 0x0000006f];
@@ -78,7 +74,7 @@ fn machine(alloc: Global, harts: u8, steps: u32, records: u32) -> Result<Machine
     requires harts { (1 ≤ harts) × (harts ≤ 8) }
     requires steps { (1 ≤ steps) × (steps ≤ 1000) }
     requires records { (1 ≤ records) × (records ≤ 1000) }
-    ensures { IfOk result (λ machine. (machine.ram ≡ 1_048_576) × IsValid machine) }
+    ensures { IfOk result (λ machine. (machine.ram ≡ FLAT_RAM_BYTES) × IsValid machine) }
 {
     let mut machine = Machine::flat(alloc)?;
     machine.harts = harts;
@@ -106,7 +102,7 @@ fn run(
     assert!(rt; given.steps >= 1 && given.steps <= 1000);
     assert!(rt; given.room >= 1 && given.room <= 1000);
     let image = image(rt, words)?;
-    assert!(rt; image.len() <= 1_048_576);
+    assert!(rt; image.len() <= FLAT_RAM_BYTES as usize);
     let machine = machine(rt.alloc(), given.harts, given.steps, given.room)?;
     let mut failing = Vec::new(rt.alloc());
     if given.fails {
@@ -141,8 +137,8 @@ fn stop_text(stop: Option<Stop>) -> &'static str {
 fn runs_stop_as_their_words_say(rt: HostRuntime) -> Result<(), Fail> {
     // Each by its image, with why it stopped, its output, and the number of its entries.
     let rows: [(&[u32], Given, &str, &str, u64); 9] = [
-        (&HELLO, steps(1000), "off", "A", 7),
-        (&HELLO, steps(6), "steps", "A", 6),
+        (&IMAGE_WORDS, steps(1000), "off", OUTPUT, 7),
+        (&IMAGE_WORDS, steps(6), "steps", "A", 6),
         (&[0x0000006f], steps(10), "steps", "", 10),
         (&[0x0000006f], steps(100), "steps", "", 101),
         (&PUT_AND_LOOP, steps(100), "steps", "A", 101),
@@ -156,7 +152,7 @@ fn runs_stop_as_their_words_say(rt: HostRuntime) -> Result<(), Fail> {
             64,
         ),
         (
-            &HELLO,
+            &IMAGE_WORDS,
             Given {
                 room: 1,
                 ..steps(7)
@@ -166,7 +162,7 @@ fn runs_stop_as_their_words_say(rt: HostRuntime) -> Result<(), Fail> {
             7,
         ),
         (
-            &HELLO,
+            &IMAGE_WORDS,
             Given {
                 harts: 2,
                 ..steps(1000)
@@ -200,7 +196,7 @@ fn harts_share_memory(rt: HostRuntime) -> Result<(), Fail> {
         assert_eq!(rt; out.as_slice(), text.as_bytes());
         let image = image(&rt, words)?;
         let machine = machine(rt.alloc(), 2, 1000, 1000)?;
-        assert!(rt; image.len() <= 1_048_576);
+        assert!(rt; image.len() <= FLAT_RAM_BYTES as usize);
         let replayed = replay(rt.alloc(), &machine, &image, &ran.journal)?;
         assert_eq!(rt; replayed, Replayed::Legal(Some(0)));
     }
@@ -226,7 +222,7 @@ fn runs_cut_short_say_why(rt: HostRuntime) -> Result<(), Fail> {
         fails: true,
         ..steps(1000)
     };
-    // Each with why it stopped, the number of its entries, its outer end, and whether bytes went lost.
+    // Each with why it stopped, the number of its entries, its outer end, and whether bytes were lost.
     let rows: [(&[u32], Given, &str, u64, (u64, &str), bool); 6] = [
         (
             &[0x0000006f],
@@ -272,7 +268,7 @@ fn runs_cut_short_say_why(rt: HostRuntime) -> Result<(), Fail> {
             (0, "none"),
             false,
         ),
-        (&HELLO, lost, "off", 7, (0, "none"), true),
+        (&IMAGE_WORDS, lost, "off", 7, (0, "none"), true),
         (&PUT_AND_LOOP, lost, "none", 65, (65, "lost"), true),
     ];
     for (words, given, stop, entries, outer, lost) in rows {

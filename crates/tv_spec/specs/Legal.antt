@@ -2,7 +2,7 @@
 use Rattle.std.specs.Prelude.{ℕ, ◌≤◌, List, [], ◌∷◌, ◌++◌, Option, Some, None, map, take, drop, length}
 use Rattle.tv_base.specs.declared.Why.{Why}
 use Rattle.tv_journal.specs.declared.Entry.{Entry}
-use Rattle.tv_machine_file.specs.declared.machine.Machine.{Machine}
+use Rattle.tv_machine.specs.declared.machine.Machine.{Machine}
 use Rattle.tv_spec.specs.Setup.{Setup, setup_of}
 use Rattle.tv_spec.specs.State.{State, first_state}
 use Rattle.tv_spec.specs.Step.{Move, made, ended, Can, done}

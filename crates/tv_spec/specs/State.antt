@@ -2,7 +2,7 @@
 use Rattle.std.specs.Prelude.{ℕ, List, Bool, false}
 use Rattle.tv_hart.specs.Hart.{first_hart}
 use Rattle.tv_hart.specs.HartState.{HartState}
-use Rattle.tv_machine_file.specs.declared.machine.Machine.{Machine}
+use Rattle.tv_machine.specs.declared.machine.Machine.{Machine}
 use Rattle.tv_ram.specs.Memory.{with_image}
 use Rattle.tv_spec.specs.declared.Mode.{Mode}
 use Rattle.tv_spec.specs.declared.Mode.TheVariants as mode

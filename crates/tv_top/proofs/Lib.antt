@@ -1,3 +1,7 @@
+pub mod Chains
+pub mod Lines
+pub mod Loads
+pub mod Outputs
 pub mod Said
 pub mod Saved
-pub mod Replays
+pub mod Statuses

@@ -5,7 +5,7 @@ use Rattle.tv_journal.specs.Journals.{JournalState}
 use Rattle.tv_journal.specs.Writing.{IsSaved}
 use Rattle.tv_out.specs.declared.Short.{Short}
 use Rattle.tv_out.specs.Told.{ToldSink}
-use Rattle.tv_top.specs.Flat.{IsPutTo}
+use Rattle.tv_top.specs.Steps.{IsPutTo}
 
 by-answer : (created closed : ToldSink) (journal : JournalState) (result : Result ⊤ Short) → IsSaved result journal.entries journal.outer created closed
     → IsPutTo created journal (is_ok result)

@@ -1,4 +1,6 @@
 pub mod Answers
-pub mod Flat
+pub mod Commands
+pub mod Refusals
+pub mod Stages
+pub mod Steps
 pub mod Texts
-pub mod Replays

@@ -1,19 +1,24 @@
 //! The commands of tv, over what lies outside the program.
 #![tactic(auto)]
 
-mod flat;
+mod commands;
+mod files;
 mod refusal;
 mod replay;
 mod report;
+mod run;
 
-ghost use Rattle.std.specs.Prelude.{◌≡◌, ◌≤◌, None};
-ghost use Rattle.std.specs.Option.{option_map};
-ghost use Rattle.tv_top.specs.Answers.{Answers, ServesFlat, ServesReplay, told_by};
-ghost use Rattle.tv_words.specs.CommandLine.{texts};
+ghost use Rattle.std.specs.Prelude.{◌≡◌, ℕ, IsSome, List, None};
+ghost use Rattle.std.specs.Result.{result_map_both};
+ghost use Rattle.tv_top.specs.Answers.{Answers, HasAnswer, ToldOutside, ended_by, ended_with, line_by, told_by};
+ghost use Rattle.tv_top.specs.Refusals.{refused_by};
+ghost use Rattle.tv_top.specs.Texts.{IsSaid};
+ghost use Rattle.tv_words.specs.CommandLine.{HasSteps, asked_by, machine_of, texts};
 
-use flat::run_flat;
-use replay::run_replay;
-use report::{say_bad_line, say_refusal, say_replay, say_run};
+use files::take_machine;
+use refusal::Refusal;
+use report::{say_bad_line, say_refusal, say_run};
+use run::Run;
 use std::alloc::Global;
 use tv_base::Why;
 use tv_journal::Journal;
@@ -45,9 +50,9 @@ pub struct Ended {
 }
 
 impl Ended {
-    /// How a command ended that began no run.
+    /// How a command ended that leaves no run.
     fn without_run(status: u8) -> Ended
-        ensures { result ≡ record { status = status; outer = None; journal = None } }
+        ensures { result ≡ ended_with status }
     {
         Ended {
             status,
@@ -64,36 +69,12 @@ pub fn plain<S: Store, O: Sink, E: Sink, R: Entropy>(
     outside: &mut PlainOutside<S, O, E, R>,
 ) -> Ended
     ensures answer { Answers (texts words.now)
-        (told_by (S.told outside.old.store) (O.told outside.old.out) (E.told outside.old.err)
-        (R.told outside.old.random))
-        (told_by (S.told outside.new.store) (O.told outside.new.out) (E.told outside.new.err)
-        (R.told outside.new.random))
+        (told_by (S.told outside.old.store) (O.told outside.old.out) (E.told outside.old.err) (R.told outside.old.random))
+        (told_by (S.told outside.new.store) (O.told outside.new.out) (E.told outside.new.err) (R.told outside.new.random))
         result }
 {
     match command_of(words) {
-        Some(
-            Command::Flat {
-                image,
-                steps,
-                journal,
-            },
-        ) => serve_flat(
-            alloc,
-            image,
-            steps,
-            journal,
-            &mut outside.store,
-            &mut outside.out,
-            &mut outside.err,
-        ),
-        Some(Command::Replay { image, journal }) => serve_replay(
-            alloc,
-            image,
-            journal,
-            &mut outside.store,
-            &mut outside.out,
-            &mut outside.err,
-        ),
+        Some(command) => outside.serve(alloc, command),
         None => {
             say_bad_line(&mut outside.err);
             Ended::without_run(2)
@@ -101,57 +82,59 @@ pub fn plain<S: Store, O: Sink, E: Sink, R: Entropy>(
     }
 }
 
-/// Serves `flat`.
-fn serve_flat<S: Store, O: Sink, E: Sink>(
-    alloc: Global,
-    image: &str,
-    steps: u32,
-    journal: Option<&str>,
-    store: &mut S,
-    out: &mut O,
-    err: &mut E,
-) -> Ended
-    requires some { 1 ≤ steps }
-    requires few { steps ≤ 100_000_000 }
-    ensures { ServesFlat image.now steps (option_map (λ file. file.now) journal.entry)
-        (S.told store.old) (S.told store.new) (O.told out.old) (O.told out.new) (E.told err.old) (E.told err.new) result }
+impl<S: Store, O: Sink, E: Sink, R: Entropy> PlainOutside<S, O, E, R> {
+    /// Serves a command.
+    fn serve(&mut self, alloc: Global, command: Command<'_>) -> Ended
+        requires { HasSteps (machine_of (asked_by command)) }
+        ensures answer { HasAnswer (asked_by command.entry)
+            (told_by (S.told self.old.store) (O.told self.old.out) (E.told self.old.err) (R.told self.old.random))
+            (told_by (S.told self.new.store) (O.told self.new.out) (E.told self.new.err) (R.told self.new.random))
+            result }
+        ensures random { R.told self.new.random ≡ R.told self.old.random }
+    {
+        match take_machine(alloc, command.origin(), &mut self.store) {
+            Ok(machine) => {
+                let answer = self.carry_out(alloc, command, &machine);
+                end(&mut self.err, answer)
+            }
+            Err(refusal) => end(&mut self.err, Err(refusal)),
+        }
+    }
+}
+
+/// Says what a command came to, and ends it.
+fn end<E: Sink>(err: &mut E, answer: Result<Option<Run>, Refusal<'_>>) -> Ended
+    ensures ended { result ≡ ended_by (result_map_both (λ run. run) refused_by answer.entry) }
+    ensures said { IsSaid (line_by (result_map_both (λ run. run) refused_by answer.entry)) (E.told err.old) (E.told err.new) }
 {
-    match run_flat(alloc, image, steps, journal, store, out) {
-        Ok(run) => {
-            say_run(err, steps, &run);
+    match answer {
+        Ok(Some(run)) => {
+            say_run(err, &run);
             Ended {
                 status: run.status(),
                 outer: run.ran.journal.outer(),
                 journal: Some(run.ran.journal),
             }
         }
+        Ok(None) => Ended::without_run(0),
         Err(refusal) => {
-            say_refusal(err, image, refusal);
+            say_refusal(err, &refusal);
             Ended::without_run(refusal.status())
         }
     }
 }
 
-/// Serves `replay`.
-fn serve_replay<S: Store, O: Sink, E: Sink>(
-    alloc: Global,
-    image: &str,
-    journal: &str,
-    store: &mut S,
-    out: &mut O,
-    err: &mut E,
-) -> Ended
-    ensures { ServesReplay image.now journal.now
-        (S.told store.old) (S.told store.new) (O.told out.old) (O.told out.new) (E.told err.old) (E.told err.new) result }
-{
-    match run_replay(alloc, image, journal, store, out) {
-        Ok(()) => Ended::without_run(0),
-        Err(refusal) => {
-            say_replay(err, image, journal, refusal);
-            Ended::without_run(refusal.status())
-        }
-    }
-}
+/// A command that ends out of memory leaves no run, and it put nothing to the output.
+pub fn out_of_memory_begins_no_run()
+    ensures { (words : List (List ℕ)) (before after : ToldOutside) (ended : Ended) → Answers words before after ended → ended.status ≡ 9
+        → (ended.journal ≡ None) × (after.out ≡ before.out) }
+{}
+
+/// A command that ends with 0 had no put to the output that failed, where the output tells beforehand which ones fail.
+pub fn no_failed_put_ends_well()
+    ensures { (words : List (List ℕ)) (before after : ToldOutside) (ended : Ended) → Answers words before after ended → ended.status ≡ 0
+        → IsSome before.out.script → after.out.faults ≡ before.out.faults }
+{}
 
 #[cfg(test)]
 mod tests;

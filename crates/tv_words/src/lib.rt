@@ -9,7 +9,7 @@ mod arguments;
 mod command;
 mod word;
 
-pub use command::{Command, command_of};
+pub use command::{Command, Origin, command_of, words_ask_for_one_command};
 
 #[cfg(test)]
 mod tests;

@@ -45,9 +45,8 @@ fn flat_lines_give_image_steps_and_journal(rt: HostRuntime) -> Result<(), Fail> 
     for (line, wanted, limit, file) in rows {
         let words = owned(&rt, line)?;
         let Some(
-            Command::Flat {
-                image,
-                steps,
+            Command::Solo {
+                origin: Origin::Flat { image, steps },
                 journal,
             },
         ) = command_of(&words)
@@ -62,6 +61,41 @@ fn flat_lines_give_image_steps_and_journal(rt: HostRuntime) -> Result<(), Fail> 
 }
 
 #[test]
+fn solo_lines_give_machine_and_journal(rt: HostRuntime) -> Result<(), Fail> {
+    let rows: [(&[&str], &str, Option<&str>); 4] = [
+        (&["solo", "m"], "m", None),
+        (&["solo", "m", "--journal", "j"], "m", Some("j")),
+        (&["solo", "--journal=-j", "m"], "m", Some("-j")),
+        (&["solo", "--", "--flat"], "--flat", None),
+    ];
+    for (line, wanted, file) in rows {
+        let words = owned(&rt, line)?;
+        let Some(
+            Command::Solo {
+                origin: Origin::File { name },
+                journal,
+            },
+        ) = command_of(&words)
+        else {
+            return Err(Fail::from("no line of solo"));
+        };
+        assert_eq!(rt; name, wanted);
+        assert_eq!(rt; journal, file);
+    }
+    Ok(())
+}
+
+#[test]
+fn check_lines_give_the_machine(rt: HostRuntime) -> Result<(), Fail> {
+    let words = owned(&rt, &["check", "--", "-m"])?;
+    let Some(Command::Check { name }) = command_of(&words) else {
+        return Err(Fail::from("no line of check"));
+    };
+    assert_eq!(rt; name, "-m");
+    Ok(())
+}
+
+#[test]
 fn replay_lines_give_image_and_journal(rt: HostRuntime) -> Result<(), Fail> {
     let rows: [(&[&str], &str, &str); 4] = [
         (&["replay", "--flat", "i", "j"], "i", "j"),
@@ -71,18 +105,42 @@ fn replay_lines_give_image_and_journal(rt: HostRuntime) -> Result<(), Fail> {
     ];
     for (line, wanted, file) in rows {
         let words = owned(&rt, line)?;
-        let Some(Command::Replay { image, journal }) = command_of(&words) else {
+        let Some(
+            Command::Replay {
+                origin: Origin::Flat { image, steps },
+                journal,
+            },
+        ) = command_of(&words)
+        else {
             return Err(Fail::from("no line of replay"));
         };
         assert_eq!(rt; image, wanted);
+        assert_eq!(rt; steps, 1_000_000);
         assert_eq!(rt; journal, file);
     }
     Ok(())
 }
 
 #[test]
+fn replay_lines_give_machine_and_journal(rt: HostRuntime) -> Result<(), Fail> {
+    let words = owned(&rt, &["replay", "m", "j"])?;
+    let Some(
+        Command::Replay {
+            origin: Origin::File { name },
+            journal,
+        },
+    ) = command_of(&words)
+    else {
+        return Err(Fail::from("no line of replay"));
+    };
+    assert_eq!(rt; name, "m");
+    assert_eq!(rt; journal, "j");
+    Ok(())
+}
+
+#[test]
 fn other_words_are_refused(rt: HostRuntime) -> Result<(), Fail> {
-    let lines: [&[&str]; 36] = [
+    let lines: [&[&str]; 44] = [
         &[],
         &["run", "a"],
         &["--steps", "1", "flat", "a"],
@@ -112,7 +170,15 @@ fn other_words_are_refused(rt: HostRuntime) -> Result<(), Fail> {
         &["flat", "a", "--journal", "-x"],
         &["flat", "a", "--journal=j", "--journal=j"],
         &["flat", "a", "--flat"],
-        &["replay", "i", "j"],
+        &["solo"],
+        &["solo", ""],
+        &["solo", "m", "--steps=1"],
+        &["solo", "m", "--flat"],
+        &["solo", "m", "--journal="],
+        &["check"],
+        &["check", "m", "n"],
+        &["check", "m", "--journal=j"],
+        &["replay", "i", "--steps=1", "j"],
         &["replay", "--flat", "i"],
         &["replay", "--flat", "i", ""],
         &["replay", "--flat", "i", "j", "k"],

@@ -6,4 +6,4 @@ use Rattle.tv_journal.proofs.Journal.outer.Goals as goal
 
 pub returns-in-Some-clause-line : goal.returns-in-Some-clause-line
 returns-in-Some-clause-line c =
-    subst (IsOuterEnd c.args.self.now.entries) (ap outer_of c.in-Some.is) (has-line c.self.inside.records.items c.self.inside.end c.self.inside.events c.self.inside.record_room _ c.args.self.now.entries c.self.invariant (ap (λ (j : JournalState). j.entries) c.self.view_is))
+    subst (IsOuterEnd c.args.self.now.entries) (ap outer_of c.in-Some.is) (has-line c.self.inside.records.items c.self.inside.end c.self.inside.events c.self.inside.record_room _ c.args.self.now.entries c.self.invariant.kept (ap (λ (j : JournalState). j.entries) c.self.view_is))

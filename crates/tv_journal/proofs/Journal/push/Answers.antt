@@ -18,7 +18,7 @@ returns-then-not-add c =
     let few : length (entries_of rs) < 2 ^ 32 - 1 = rw (ap (λ (j : JournalState). length j.entries) c.self.view_is) c.requires.few in
     rw (← c.self.view_is)
     (pushed-no rs (added rs c.args.entry.now) c.add.new.records.items c.self.inside.end c.self.inside.record_room c.self.inside.payload_room (c.args.entry.now ∷ [])
-    (count-added rs c.self.inside.end c.self.inside.events c.self.inside.record_room _ c.args.entry.now c.self.invariant few c.add.ensures.fits c.requires.entry)
+    (count-added rs c.self.inside.end c.self.inside.events c.self.inside.record_room _ c.args.entry.now c.self.invariant.kept few c.add.ensures.fits c.requires.entry)
     c.if-not-add.ensures.added)
 
 pub invariant_of-self-2 : goal.invariant_of-self-2
@@ -28,9 +28,12 @@ invariant_of-self-2 c =
     let follows : MayFollow (outer_of c.self.inside.end) c.args.entry.now = rw (ap (λ (j : JournalState). j.outer) c.self.view_is) c.requires.follows in
     let parts = chosen-yes (leb (length (added rs c.args.entry.now)) c.self.inside.record_room) c.add.new.records.items (added rs c.args.entry.now) rs c.if-not-add.ensures.added in
     let within : length (added rs c.args.entry.now) ≤ c.self.inside.record_room = leb-true _ _ parts.0 in
-    rw parts.1
-    (kept-added rs c.self.inside.end c.self.inside.events c.self.inside.record_room (vec_capacity c.self.inside.records) (vec_capacity c.add.new.records) c.args.entry.now
-    c.self.invariant few (search rules) c.add.ensures.fits c.requires.entry follows within c.add.ensures.taken)
+    record {
+      kept = rw parts.1
+          (kept-added rs c.self.inside.end c.self.inside.events c.self.inside.record_room (vec_capacity c.self.inside.records) (vec_capacity c.add.new.records) c.args.entry.now
+          c.self.invariant.kept few (search rules) c.add.ensures.fits c.requires.entry follows within c.add.ensures.taken);
+      payload = c.self.invariant.payload;
+    }
 
 pub returns : goal.returns
 returns c =
@@ -39,5 +42,5 @@ returns c =
     rw (← c.self.view_is)
     (pushed-yes rs (added rs c.args.entry.now) c.add.new.records.items c.self.inside.end c.self.inside.record_room c.self.inside.payload_room (c.args.entry.now ∷ [])
     (entries-added rs c.args.entry.now)
-    (count-added rs c.self.inside.end c.self.inside.events c.self.inside.record_room _ c.args.entry.now c.self.invariant few c.add.ensures.fits c.requires.entry)
+    (count-added rs c.self.inside.end c.self.inside.events c.self.inside.record_room _ c.args.entry.now c.self.invariant.kept few c.add.ensures.fits c.requires.entry)
     c.if-not-add.ensures.added)

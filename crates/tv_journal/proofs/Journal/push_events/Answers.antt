@@ -18,7 +18,7 @@ returns-then-not-add_events c =
     let few : length (entries_of rs) + c.args.count < 2 ^ 32 = rw (ap (λ (j : JournalState). length j.entries) c.self.view_is) c.requires.few in
     rw (← c.self.view_is)
     (pushed-no rs (events_added rs c.args.hart c.args.count) c.add_events.new.records.items c.self.inside.end c.self.inside.record_room c.self.inside.payload_room (replicate c.args.count (entry.Hart c.args.hart))
-    (count-events rs c.self.inside.end c.self.inside.events c.self.inside.record_room _ c.args.hart c.args.count c.self.invariant few c.add_events.ensures.fits c.requires.some)
+    (count-events rs c.self.inside.end c.self.inside.events c.self.inside.record_room _ c.args.hart c.args.count c.self.invariant.kept few c.add_events.ensures.fits c.requires.some)
     c.if-not-add_events.ensures.added)
 
 pub invariant_of-self-2 : goal.invariant_of-self-2
@@ -30,9 +30,12 @@ invariant_of-self-2 c =
     let parts = chosen-yes (leb (length later) c.self.inside.record_room) c.add_events.new.records.items later rs c.if-not-add_events.ensures.added in
     let within : length later ≤ c.self.inside.record_room = leb-true _ _ parts.0 in
     let same : c.from.result ≡ c.args.count = omega (arith, c.from.ensures) in
-    rw (parts.1, same)
-    (kept-events rs c.self.inside.end c.self.inside.events c.self.inside.record_room (vec_capacity c.self.inside.records) (vec_capacity c.add_events.new.records) c.args.hart c.args.count
-    c.self.invariant few (search rules) c.add_events.ensures.fits c.requires.some none within c.add_events.ensures.taken)
+    record {
+      kept = rw (parts.1, same)
+          (kept-events rs c.self.inside.end c.self.inside.events c.self.inside.record_room (vec_capacity c.self.inside.records) (vec_capacity c.add_events.new.records) c.args.hart c.args.count
+          c.self.invariant.kept few (search rules) c.add_events.ensures.fits c.requires.some none within c.add_events.ensures.taken);
+      payload = c.self.invariant.payload;
+    }
 
 pub returns : goal.returns
 returns c =
@@ -41,5 +44,5 @@ returns c =
     rw (← c.self.view_is)
     (pushed-yes rs (events_added rs c.args.hart c.args.count) c.add_events.new.records.items c.self.inside.end c.self.inside.record_room c.self.inside.payload_room (replicate c.args.count (entry.Hart c.args.hart))
     (entries-events rs c.args.hart c.args.count)
-    (count-events rs c.self.inside.end c.self.inside.events c.self.inside.record_room _ c.args.hart c.args.count c.self.invariant few c.add_events.ensures.fits c.requires.some)
+    (count-events rs c.self.inside.end c.self.inside.events c.self.inside.record_room _ c.args.hart c.args.count c.self.invariant.kept few c.add_events.ensures.fits c.requires.some)
     c.if-not-add_events.ensures.added)

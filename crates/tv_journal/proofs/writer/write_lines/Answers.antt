@@ -2,24 +2,26 @@ use Rattle.std.proofs.Common.{[], ◌++◌, length, arith}
 use Rattle.std.specs.Prelude.{codes, OnOk, OnErr}
 use Rattle.tv_journal.specs.Grammar.{lines_bytes, closing_bytes}
 use Rattle.tv_journal.specs.Writing.{WritesOn, EndsIn}
-use Rattle.tv_journal.proofs.Written.{writes-after, ends-after, ends-before, on-err, on-ok, cut-whole, gives-whole}
+use Rattle.tv_journal.proofs.Written.{writes-after, ends-after, ends-before, on-err, on-ok, cut-whole, gives-whole, gives-cut}
 use Rattle.tv_journal.proofs.writer.write_lines.Goals as goal
 
-pub returns-in-Err-clause-gives : goal.returns-in-Err-clause-gives
-returns-in-Err-clause-gives g c =
+pub returns-in_err-write_bytes-clause-gives : goal.returns-in_err-write_bytes-clause-gives
+returns-in_err-write_bytes-clause-gives g c =
     let lines = lines_bytes c.args.records.now c.args.end in
     let closing = closing_bytes (length c.args.records.now) in
     let magic : EndsIn (codes "TVJ1") (g.K.Sink.told c.args.sink.now) [] (g.K.Sink.told c.write_bytes.new.sink) =
-    rw c.new-piece.ensures at c.in-Err.ensures.err in
-    cut-whole ((codes "TVJ1" ++ lines) ++ closing) _ _ (ends-before (codes "TVJ1" ++ lines) closing _ _ _ (ends-before (codes "TVJ1") lines _ _ _ magic))
+    rw c.new-piece.ensures at c.in_err-write_bytes.ensures.err in
+    gives-cut c.from_residual.result ((codes "TVJ1" ++ lines) ++ closing) _ _ c.from_residual.ensures.0
+    (cut-whole ((codes "TVJ1" ++ lines) ++ closing) _ _ (ends-before (codes "TVJ1" ++ lines) closing _ _ _ (ends-before (codes "TVJ1") lines _ _ _ magic)))
 
-pub returns-in-Err-write_body-clause-gives : goal.returns-in-Err-write_body-clause-gives
-returns-in-Err-write_body-clause-gives g c =
+pub returns-in_err-write_body-clause-gives : goal.returns-in_err-write_body-clause-gives
+returns-in_err-write_body-clause-gives g c =
     let lines = lines_bytes c.args.records.now c.args.end in
     let closing = closing_bytes (length c.args.records.now) in
     let magic : WritesOn (codes "TVJ1") (g.K.Sink.told c.args.sink.now) [] (g.K.Sink.told c.write_bytes.new.sink) c.write_bytes.new.piece.items =
-    rw c.new-piece.ensures at c.in-Ok.ensures.ok in
-    cut-whole ((codes "TVJ1" ++ lines) ++ closing) _ _ (ends-before (codes "TVJ1" ++ lines) closing _ _ _ (ends-after (codes "TVJ1") lines _ _ _ _ _ magic c.in-Err-write_body.ensures.err))
+    rw c.new-piece.ensures at c.in_ok-write_bytes.ensures.ok in
+    gives-cut c.from_residual-in_err-write_body.result ((codes "TVJ1" ++ lines) ++ closing) _ _ c.from_residual-in_err-write_body.ensures.0
+    (cut-whole ((codes "TVJ1" ++ lines) ++ closing) _ _ (ends-before (codes "TVJ1" ++ lines) closing _ _ _ (ends-after (codes "TVJ1") lines _ _ _ _ _ magic c.in_err-write_body.ensures.err)))
 
 pub returns-clause-gives : goal.returns-clause-gives
 returns-clause-gives g c =
@@ -30,9 +32,9 @@ returns-clause-gives g c =
     let new = (g.K.Sink.told c.write_closing.new.sink) in
     let piece = c.write_body.new.piece.items in
     let magic : WritesOn (codes "TVJ1") old [] (g.K.Sink.told c.write_bytes.new.sink) c.write_bytes.new.piece.items =
-    rw c.new-piece.ensures at c.in-Ok.ensures.ok in
+    rw c.new-piece.ensures at c.in_ok-write_bytes.ensures.ok in
     let body : WritesOn (codes "TVJ1" ++ lines) old [] mid piece =
-    writes-after (codes "TVJ1") lines old (g.K.Sink.told c.write_bytes.new.sink) mid [] c.write_bytes.new.piece.items piece magic c.in-Ok-write_body.ensures.ok in
+    writes-after (codes "TVJ1") lines old (g.K.Sink.told c.write_bytes.new.sink) mid [] c.write_bytes.new.piece.items piece magic c.in_ok-write_body.ensures.ok in
     let ok : OnOk c.write_closing.result (WritesOn ((codes "TVJ1" ++ lines) ++ closing) old [] new []) =
     on-ok (WritesOn closing mid piece new []) _ c.write_closing.result
     (λ (writes : WritesOn closing mid piece new []). writes-after (codes "TVJ1" ++ lines) closing old mid new [] piece [] body writes) c.write_closing.ensures.ok in

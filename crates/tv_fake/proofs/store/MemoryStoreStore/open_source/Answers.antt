@@ -1,38 +1,21 @@
-use Rattle.std.proofs.Common.{Ok, Err, refl, arith}
-use Rattle.tv_base.specs.declared.Failed.{Failed}
+use Rattle.std.proofs.Common.{rules, refl}
+use Rattle.tv_out.specs.Asked.{sources}
+use Rattle.tv_out.specs.Told.{IsOpenedSource}
+use Rattle.tv_fake.specs.MemoryStore.{files_of, script_of}
 use Rattle.tv_fake.specs.Opened.{opened_source}
-use Rattle.tv_fake.proofs.Raised.{raised-none}
-use Rattle.tv_fake.proofs.Views.{given, not_due, due, shelf-given}
+use Rattle.tv_fake.proofs.Openings.{opened, refused}
 use Rattle.tv_fake.proofs.store.MemoryStoreStore.open_source.Goals as goal
 
-pub returns-in-Ok-clause-given : goal.returns-in-Ok-clause-given
-returns-in-Ok-clause-given c =
-    rw c.restart.ensures (given opened_source c.args.name.now c.args.self.now.objects.sources.items c.in-Ok.source c.in-Ok.ensures.gift.1)
+pub returns : goal.returns
+returns c = record {
+  opened = rw (c.restart.ensures, c.in_ok-source.ensures.counted)
+      (opened sources IsOpenedSource opened_source c.args.name.now (files_of c.args.self.now.objects) (script_of c.args.self.now) c.args.self.now.tally c.give.new.tally
+      c.args.self.now.objects.sources.items c.give.new.shelf.items c.in_ok-source.source refl (search rules) c.in_ok-source.ensures.gift c.in_ok-source.ensures.shelf);
+}
 
-pub returns-in-Ok-clause-follows : goal.returns-in-Ok-clause-follows
-returns-in-Ok-clause-follows c = (
-  not_due opened_source c.args.self.now.calls c.args.name.now c.args.self.now.tally c.args.self.now.objects.sources.items c.in-Ok.source c.in-Ok.ensures.gift.0 c.in-Ok.ensures.gift.1,
-  rw c.in-Ok.ensures.gift.2 refl,
-)
-
-pub returns-in-Ok-clause-script : goal.returns-in-Ok-clause-script
-returns-in-Ok-clause-script c =
-    rw (c.in-Ok.ensures.counted, shelf-given {E = Failed} opened_source c.args.name.now c.args.self.now.objects.sources.items c.give.new.shelf.items (Ok c.in-Ok.source) c.in-Ok.ensures.shelf) refl
-
-pub returns-in-Err-clause-follows : goal.returns-in-Err-clause-follows
-returns-in-Err-clause-follows c = (
-  due opened_source c.args.self.now.calls c.args.name.now c.args.self.now.tally c.args.self.now.objects.sources.items c.in-Err.ensures.gift.0,
-  c.in-Err.ensures.gift.1.total,
-)
-
-pub returns-in-Err-clause-script : goal.returns-in-Err-clause-script
-returns-in-Err-clause-script c =
-    rw (c.in-Err.ensures.counted, shelf-given {X = Unit {0}} opened_source c.args.name.now c.args.self.now.objects.sources.items c.give.new.shelf.items (Err c.in-Err.failed) c.in-Err.ensures.shelf) refl
-
-pub returns-in-Ok-clause-asked : goal.returns-in-Ok-clause-asked
-returns-in-Ok-clause-asked c = record {
-  files = refl;
-  elsewhere = rw c.in-Ok.ensures.gift.2 (raised-none c.args.self.now.tally.counts.items c.args.self.now.tally.others c.args.name.now);
-  cause = rw c.in-Ok.ensures.gift.2 (record { later = omega arith; failed = tt });
-  at_name = tt;
+pub returns-in_err-source : goal.returns-in_err-source
+returns-in_err-source c = record {
+  opened = rw c.in_err-source.ensures.counted
+      (refused sources IsOpenedSource opened_source c.args.name.now (files_of c.args.self.now.objects) (script_of c.args.self.now) c.args.self.now.tally c.give.new.tally
+      c.args.self.now.objects.sources.items c.give.new.shelf.items _ c.in_err-source.field-0.0 refl (search rules) c.in_err-source.ensures.gift c.in_err-source.ensures.shelf);
 }

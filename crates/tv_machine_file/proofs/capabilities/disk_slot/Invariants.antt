@@ -1,7 +1,0 @@
-use Rattle.std.proofs.Common.{◌≡◌, drop}
-use Rattle.tv_machine_file.specs.Capabilities.{capabilities_from}
-use Rattle.tv_machine_file.proofs.Spots.{found}
-use Rattle.tv_machine_file.proofs.capabilities.disk_slot.Given as goal
-
-abbrev pub invariant-loop-slot : goal.invariant-loop-slot
-invariant-loop-slot l = found (capabilities_from 0 l.devices) l.cap ≡ found (capabilities_from l.slot (drop l.slot l.devices)) l.at
