@@ -1,0 +1,3 @@
+pub mod Fields
+pub mod Grants
+pub mod Machines

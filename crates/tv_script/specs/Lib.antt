@@ -1,0 +1,4 @@
+pub mod Happenings
+pub mod Scripts
+pub mod Services
+pub mod Recorded
