@@ -1,6 +1,7 @@
 //! Whole commands over real files, in the system's folder for temporary ones.
 
 mod images;
+mod in_memory;
 
 use super::*;
 use std::process::Abort;

@@ -1,6 +1,6 @@
 //! The values of the base instructions' operations (RISC-V Unprivileged ISA, chapters "RV32I" and "RV64I").
 
-ghost use Rattle.std.specs.Prelude.{◌≡◌, ◌<◌, ◌*◌, ◌^◌};
+ghost use Rattle.std.specs.Prelude.{◌≡◌, ◌^◌};
 ghost use Rattle.tv_exec.specs.Arithmetic.{alu_of, alu_w_of, HasWordForm, branch_of, sign_extended_from};
 
 use tv_isa::{Alu, Branch};
@@ -41,7 +41,7 @@ pub fn alu_w(op: Alu, a: u64, b: u64) -> u64
         Alu::Sra => (x.cast_signed() >> (y % 32)).cast_unsigned(),
         Alu::Slt | Alu::Sltu | Alu::Xor | Alu::Or | Alu::And => unreachable!(),
     };
-    sign_extended(0x8000_0000, u64::from(word))
+    word_extended(word)
 }
 
 /// Whether a branch is taken.
@@ -59,16 +59,26 @@ pub fn branch(op: Branch, a: u64, b: u64) -> bool
     }
 }
 
-/// A number below `2 * half` as a signed number whose sign bit is worth `half`, in 64 bits.
+/// A number of 8 bits as one of 64 bits, with its sign.
 #[inline(always)]
-pub fn sign_extended(half: u64, n: u64) -> u64
-    requires narrow { half < 2 ^ 63 }
-    requires fits { n < 2 * half }
-    ensures { result ≡ sign_extended_from half n }
+pub fn byte_extended(byte: u8) -> u64
+    ensures { result ≡ sign_extended_from (2 ^ 7) byte }
 {
-    if n < half {
-        n
-    } else {
-        n.wrapping_sub(2 * half)
-    }
+    i64::from(byte.cast_signed()).cast_unsigned()
+}
+
+/// A number of 16 bits as one of 64 bits, with its sign.
+#[inline(always)]
+pub fn half_word_extended(half: u16) -> u64
+    ensures { result ≡ sign_extended_from (2 ^ 15) half }
+{
+    i64::from(half.cast_signed()).cast_unsigned()
+}
+
+/// A number of 32 bits as one of 64 bits, with its sign.
+#[inline(always)]
+pub fn word_extended(word: u32) -> u64
+    ensures { result ≡ sign_extended_from (2 ^ 31) word }
+{
+    i64::from(word.cast_signed()).cast_unsigned()
 }

@@ -3,7 +3,7 @@
 ghost use Rattle.std.specs.Prelude.{◌≡◌};
 ghost use Rattle.tv_exec.specs.Atomic.{amo_of, IsAmoWidth, double_of_amo, word_of_amo};
 
-use crate::arithmetic::sign_extended;
+use crate::arithmetic::word_extended;
 use tv_base::Width;
 use tv_isa::AmoOp;
 
@@ -17,7 +17,7 @@ pub fn amo(op: AmoOp, width: Width, old: u64, b: u64) -> u64
     match width {
         Width::B4 => {
             let word = amo_word(op, (old & 0xffff_ffff) as u32, (b & 0xffff_ffff) as u32);
-            sign_extended(0x8000_0000, u64::from(word))
+            word_extended(word)
         }
         Width::B8 => amo_double(op, old, b),
         Width::B1 | Width::B2 => unreachable!(),

@@ -3,7 +3,7 @@
 ghost use Rattle.std.specs.Prelude.{◌≡◌, ◌*ℤ◌};
 ghost use Rattle.tv_exec.specs.Division.{mul_div_of, mul_div_w_of, MulDivHasWordForm, upper_half, word_of_mul_div};
 
-use crate::arithmetic::sign_extended;
+use crate::arithmetic::word_extended;
 use tv_isa::MulDiv;
 
 /// The product, quotient or remainder of two registers of 64 bits. A quotient by zero is all ones, a remainder by zero the
@@ -59,7 +59,7 @@ pub fn mul_div_w(op: MulDiv, a: u64, b: u64) -> u64
     let x = (a & 0xffff_ffff) as u32;
     let y = (b & 0xffff_ffff) as u32;
     let word = mul_div_word(op, x, y);
-    sign_extended(0x8000_0000, u64::from(word))
+    word_extended(word)
 }
 
 /// Of two words.

@@ -7,7 +7,7 @@ mod arithmetic;
 mod atomic;
 mod division;
 
-pub use arithmetic::{alu, alu_w, branch, sign_extended};
+pub use arithmetic::{alu, alu_w, branch, byte_extended, half_word_extended, word_extended};
 pub use atomic::amo;
 pub use division::{mul_div, mul_div_w};
 pub use tv_isa::{Alu, AmoOp, Branch, MulDiv};

@@ -122,6 +122,10 @@ fn values_of_atomic_operations(rt: HostRuntime) {
 
 #[test]
 fn numbers_with_their_sign(rt: HostRuntime) {
-    assert_eq!(rt; sign_extended(0x80, 0x7f), 0x7f);
-    assert_eq!(rt; sign_extended(0x80, 0x80), 0xffff_ffff_ffff_ff80);
+    assert_eq!(rt; byte_extended(0x7f), 0x7f);
+    assert_eq!(rt; byte_extended(0x80), 0xffff_ffff_ffff_ff80);
+    assert_eq!(rt; half_word_extended(0x7fff), 0x7fff);
+    assert_eq!(rt; half_word_extended(0x8000), 0xffff_ffff_ffff_8000);
+    assert_eq!(rt; word_extended(0x7fff_ffff), 0x7fff_ffff);
+    assert_eq!(rt; word_extended(0x8000_0000), 0xffff_ffff_8000_0000);
 }

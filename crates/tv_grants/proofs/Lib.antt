@@ -1,2 +1,4 @@
 pub mod Bytes
 pub mod Machines
+pub mod Numbers
+pub mod Theirs

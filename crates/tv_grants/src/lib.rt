@@ -192,6 +192,7 @@ impl Grants {
         ensures page { result ≡ is_ram_page (length self.old.withdrawn) page }
         ensures withdrawn { OnTrue result (self.new ≡ with_page self.old page true) }
         ensures unchanged { OnFalse result (self.new ≡ self.old) }
+        ensures size { length self.new.withdrawn ≡ length self.old.withdrawn }
     {
         set_page(&mut self.withdrawn, page, true)
     }
@@ -202,6 +203,7 @@ impl Grants {
         ensures page { result ≡ is_ram_page (length self.old.withdrawn) page }
         ensures given { OnTrue result (self.new ≡ with_page self.old page false) }
         ensures unchanged { OnFalse result (self.new ≡ self.old) }
+        ensures size { length self.new.withdrawn ≡ length self.old.withdrawn }
     {
         set_page(&mut self.withdrawn, page, false)
     }

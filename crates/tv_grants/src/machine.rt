@@ -2,9 +2,10 @@
 
 ghost use Rattle.std.specs.Prelude.{◌≡◌, ◌≤◌, ◌+◌, ◌*◌, ◌^◌, ◌<◌, ◌≢◌, ℕ, All, IfOk, None, length, slice_index_or};
 ghost use Rattle.tv_base.specs.declared.limits.TheConstants.{DEVICE_GRANTS};
+ghost use Rattle.tv_machine.specs.Capabilities.{capabilities};
 ghost use Rattle.tv_machine.specs.Valid.{IsInRam, IsValid};
 ghost use Rattle.tv_grants.specs.Grants.{ram_bytes};
-ghost use Rattle.tv_grants.specs.Machines.{machine_grants, with_device, with_optional, with_ranges};
+ghost use Rattle.tv_grants.specs.Machines.{AreNumbered, AreTheirs, machine_grants, with_device, with_optional, with_ranges};
 
 use crate::Grants;
 use std::alloc::Global;
@@ -19,7 +20,9 @@ impl Grants {
     #[tactic(auto, using(crate::proofs::Machines::all_bytes))]
     pub fn of_machine(alloc: Global, machine: &Machine) -> Result<Grants, Memory>
         requires { IsValid machine.now }
-        ensures { IfOk result (λ grants. grants ≡ machine_grants machine.now) }
+        ensures grants { IfOk result (λ grants. grants ≡ machine_grants machine.now) }
+        ensures numbers { IfOk result (AreNumbered (capabilities machine.now)) }
+        ensures theirs { IfOk result (AreTheirs machine.now.device) }
     {
         let mut grants = Grants::new(alloc, machine.ram)?;
         let devices = machine.device.as_slice();

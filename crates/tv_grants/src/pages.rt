@@ -25,6 +25,7 @@ pub fn set_page(withdrawn: &mut [bool], page: u32, is: bool) -> bool
     ensures page { result ≡ is_ram_page (length withdrawn.old) page }
     ensures set { OnTrue result (withdrawn.new ≡ slice_set withdrawn.old (page - first_page) is) }
     ensures unchanged { OnFalse result (withdrawn.new ≡ withdrawn.old) }
+    ensures size { length withdrawn.new ≡ length withdrawn.old }
 {
     let page = u64::from(page);
     if page < FIRST_PAGE {

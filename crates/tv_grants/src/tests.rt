@@ -1,11 +1,13 @@
-ghost use Rattle.std.specs.Prelude.{◌≡◌, IfOk};
+ghost use Rattle.std.specs.Prelude.{◌≡◌, IfOk, length};
 ghost use Rattle.tv_grants.specs.Grants.{no_grants};
 
 use super::{GrantError, Grants};
 use std::alloc::Global;
 use std::test::Fail;
-use tv_base::{DevNo, Memory, Rights};
+use tv_base::{DevNo, Memory, Rights, Width};
+use tv_items::{Action, Bytes, Heard};
 use tv_machine::{DeviceKind, DeviceSpec, KeyText, Machine, MemRange, RangeList};
+use tv_ram::Ram;
 
 /// Memory of 64 KiB: its pages are 0x8_0000 to 0x8_000f.
 fn least(alloc: Global) -> Result<Grants, Memory>
@@ -14,11 +16,27 @@ fn least(alloc: Global) -> Result<Grants, Memory>
     Grants::new(alloc, 0x1_0000)
 }
 
+/// The bytes of this memory, which are 0.
+#[tactic(auto, using(tv_ram::proofs::Inside::length_zeros))]
+fn memory(alloc: Global) -> Result<Ram, Fail>
+    ensures { IfOk result (λ ram. length ram ≡ 65536) }
+{
+    Ram::new(alloc, 0x1_0000).map_err(|_| Fail::from("memory"))
+}
+
 /// The slots 0 and 1.
 fn slots() -> Result<[DevNo; 2], Fail> {
     match (DevNo::new(0), DevNo::new(1)) {
         (Some(first), Some(second)) => Ok([first, second]),
         _ => Err(Fail::from("slots")),
+    }
+}
+
+/// Whether these bytes are heard.
+fn gives(heard: &Heard, want: &[u8]) -> bool {
+    match heard {
+        Heard::Bytes(bytes) => bytes.as_slice() == want,
+        _ => false,
     }
 }
 
@@ -188,6 +206,64 @@ fn a_page_is_released_where_each_byte_may_be_written(rt: HostRuntime) -> Result<
         assert_eq!(rt; grants.allowed_page(first, page), want, "{page}");
         assert!(rt; !grants.allowed_page(second, page), "{page}");
     }
+    Ok(())
+}
+
+#[test]
+fn a_refused_action_changes_nothing(rt: HostRuntime) -> Result<(), Fail> {
+    let alloc = rt.alloc();
+    let mut grants = least(alloc)?;
+    let mut ram = memory(alloc)?;
+    let [first, second] = slots()?;
+    grants.add(first, 0x8000_0000, 4096, Rights::READ | Rights::WRITE)?;
+    // two bytes of four lie in the range, and none is written
+    assert!(rt; !grants.write(&mut ram, first, 0x8000_0ffe, &[1, 2, 3, 4]));
+    assert_eq!(rt; ram.load(0x8000_0ff8, Width::B8), Some(0));
+    assert!(rt; grants.write(&mut ram, first, 0x8000_0ffe, &[1, 2]));
+    assert_eq!(rt; ram.load(0x8000_0ffc, Width::B8), Some(0x0201_0000));
+    let mut out = [9; 2];
+    assert!(rt; !grants.read(&ram, second, 0x8000_0ffe, &mut out));
+    assert_eq!(rt; out, [9, 9]);
+    assert!(rt; grants.read(&ram, first, 0x8000_0ffe, &mut out));
+    assert_eq!(rt; out, [1, 2]);
+    assert!(rt; !grants.release(&mut ram, second, 0x8_0000, true));
+    assert_eq!(rt; ram.load(0x8000_0ffe, Width::B2), Some(0x0201));
+    assert!(rt; grants.release(&mut ram, first, 0x8_0000, true));
+    assert_eq!(rt; ram.load(0x8000_0ffe, Width::B2), Some(0));
+    assert!(rt; !grants.read(&ram, first, 0x8000_0000, &mut out));
+    assert!(rt; !grants.regain(second, 0x8_0000) && grants.regain(first, 0x8_0000));
+    assert!(rt; grants.read(&ram, first, 0x8000_0000, &mut out));
+    assert_eq!(rt; out, [0, 0]);
+    Ok(())
+}
+
+#[test]
+fn each_action_on_memory_is_heard_as_done_or_as_refused(rt: HostRuntime) -> Result<(), Fail> {
+    let alloc = rt.alloc();
+    let mut grants = least(alloc)?;
+    let mut ram = memory(alloc)?;
+    let [first, second] = slots()?;
+    let page = 0x8_0001;
+    let addr = 0x8000_1ffe;
+    grants.add(first, 0x8000_1000, 0x2000, Rights::READ | Rights::WRITE)?;
+    let write = Action::Write {
+        addr,
+        bytes: Bytes::of(&[1, 2, 3, 4]),
+    };
+    let read = Action::Read { addr, len: 4 };
+    let release = Action::Release { page, hold: true };
+    let regain = Action::Regain { page };
+    assert!(rt; matches!(grants.act(&mut ram, second, &write), Heard::Refused));
+    assert!(rt; matches!(grants.act(&mut ram, second, &read), Heard::Refused));
+    assert!(rt; matches!(grants.act(&mut ram, second, &release), Heard::Refused));
+    assert!(rt; matches!(grants.act(&mut ram, second, &regain), Heard::Refused));
+    assert!(rt; matches!(grants.act(&mut ram, first, &write), Heard::Done));
+    assert!(rt; gives(&grants.act(&mut ram, first, &read), &[1, 2, 3, 4]));
+    assert!(rt; matches!(grants.act(&mut ram, first, &release), Heard::Done));
+    // the read reaches into the page that is withdrawn
+    assert!(rt; matches!(grants.act(&mut ram, first, &read), Heard::Refused));
+    assert!(rt; matches!(grants.act(&mut ram, first, &regain), Heard::Done));
+    assert!(rt; gives(&grants.act(&mut ram, first, &read), &[0, 0, 3, 4]));
     Ok(())
 }
 

@@ -19,7 +19,7 @@ use crate::cause;
 use crate::loads::Extension;
 use crate::operation::{CsrOp, Operation};
 use tv_base::Width;
-use tv_exec::{AmoOp, alu, alu_w, branch, mul_div, mul_div_w, sign_extended};
+use tv_exec::{AmoOp, alu, alu_w, branch, mul_div, mul_div_w, word_extended};
 
 /// What an operation does. Its hart's pc goes on to the next instruction where nothing else is said.
 #[derive(Clone, Copy)]
@@ -63,13 +63,13 @@ fn value_of(registers: &[u64; 32], i: u8) -> u64
     registers[usize::from(i)]
 }
 
-/// An immediate of the formats I and S, sign-extended.
+/// An immediate of the formats I and S, sign-extended: its sign goes to the top of a word, and the way back copies it.
 #[inline(always)]
 fn short_immediate(imm: u32) -> u64
     requires { imm < 2 ^ 12 }
     ensures { result ≡ immediate imm }
 {
-    sign_extended(0x800, u64::from(imm))
+    (i64::from((imm << 20).cast_signed()) >> 20).cast_unsigned()
 }
 
 /// An immediate of the format U, in its place and sign-extended.
@@ -78,7 +78,7 @@ fn long_immediate(imm: u32) -> u64
     requires { imm < 2 ^ 20 }
     ensures { result ≡ upper_immediate imm }
 {
-    sign_extended(0x8000_0000, u64::from(imm) << 12)
+    word_extended(imm << 12)
 }
 
 /// The offset of a branch, sign-extended.
@@ -87,7 +87,7 @@ fn branch_distance(offset: u32) -> u64
     requires { offset < 2 ^ 13 }
     ensures { result ≡ branch_offset offset }
 {
-    sign_extended(0x1000, u64::from(offset))
+    (i64::from((offset << 19).cast_signed()) >> 19).cast_unsigned()
 }
 
 /// The offset of a jump, sign-extended.
@@ -96,7 +96,7 @@ fn jump_distance(offset: u32) -> u64
     requires { offset < 2 ^ 21 }
     ensures { result ≡ jump_offset offset }
 {
-    sign_extended(0x10_0000, u64::from(offset))
+    (i64::from((offset << 11).cast_signed()) >> 11).cast_unsigned()
 }
 
 /// The address that a register and an immediate give.

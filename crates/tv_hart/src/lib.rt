@@ -150,10 +150,58 @@ impl Hart {
             Effect::Put(rd, value) => self.retire(rd, value),
             Effect::Jump(rd, target) => self.jump(rd, target),
             Effect::Goto(target) => self.jump(0, target),
-            Effect::Load(width, extension, rd, addr) => self.load(
-                place, width, extension, rd, addr,
-            ),
-            Effect::Store(width, addr, value) => self.store(place, width, addr, value),
+            // In each access the width is a constant, so that what is inlined there asks for it no more.
+            Effect::Load(width, extension, rd, addr) => match (width, extension) {
+                (Width::B1, Extension::Sign) => self.load(
+                    place,
+                    Width::B1,
+                    Extension::Sign,
+                    rd,
+                    addr,
+                ),
+                (Width::B2, Extension::Sign) => self.load(
+                    place,
+                    Width::B2,
+                    Extension::Sign,
+                    rd,
+                    addr,
+                ),
+                (Width::B4, Extension::Sign) => self.load(
+                    place,
+                    Width::B4,
+                    Extension::Sign,
+                    rd,
+                    addr,
+                ),
+                (Width::B1, Extension::Zero) => self.load(
+                    place,
+                    Width::B1,
+                    Extension::Zero,
+                    rd,
+                    addr,
+                ),
+                (Width::B2, Extension::Zero) => self.load(
+                    place,
+                    Width::B2,
+                    Extension::Zero,
+                    rd,
+                    addr,
+                ),
+                (Width::B4, Extension::Zero) => self.load(
+                    place,
+                    Width::B4,
+                    Extension::Zero,
+                    rd,
+                    addr,
+                ),
+                (Width::B8, _) => self.load(place, Width::B8, extension, rd, addr),
+            },
+            Effect::Store(width, addr, value) => match width {
+                Width::B1 => self.store(place, Width::B1, addr, value),
+                Width::B2 => self.store(place, Width::B2, addr, value),
+                Width::B4 => self.store(place, Width::B4, addr, value),
+                Width::B8 => self.store(place, Width::B8, addr, value),
+            },
             Effect::Reserve(width, rd, addr) => self.reserve(place, width, rd, addr),
             Effect::Conditional(width, rd, addr, value) => self.conditional(
                 place, width, rd, addr, value,

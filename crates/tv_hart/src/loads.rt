@@ -5,7 +5,7 @@ ghost use Rattle.tv_base.specs.Width.{width_bytes};
 ghost use Rattle.tv_hart.specs.Loads.{extended};
 
 use tv_base::Width;
-use tv_exec::sign_extended;
+use tv_exec::{byte_extended, half_word_extended, word_extended};
 
 /// How a loaded number becomes one of 64 bits.
 #[derive(Clone, Copy)]
@@ -32,12 +32,11 @@ pub struct Waiting {
 pub fn extended_number(extension: Extension, width: Width, value: u64) -> u64
     ensures { result ≡ extended extension width value }
 {
-    let low = low_bytes(width, value);
     match (extension, width) {
-        (Extension::Zero, _) | (Extension::Sign, Width::B8) => low,
-        (Extension::Sign, Width::B1) => sign_extended(0x80, low),
-        (Extension::Sign, Width::B2) => sign_extended(0x8000, low),
-        (Extension::Sign, Width::B4) => sign_extended(0x8000_0000, low),
+        (Extension::Zero, _) | (Extension::Sign, Width::B8) => low_bytes(width, value),
+        (Extension::Sign, Width::B1) => byte_extended((value & 0xff) as u8),
+        (Extension::Sign, Width::B2) => half_word_extended((value & 0xffff) as u16),
+        (Extension::Sign, Width::B4) => word_extended((value & 0xffff_ffff) as u32),
     }
 }
 

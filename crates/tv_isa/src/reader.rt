@@ -1,8 +1,9 @@
 // The instruction of a word.
 
-ghost use Rattle.std.specs.Prelude.{◌≡◌, ◌≢◌, ◌%◌, ◌^◌, ◌<◌, IfSome, IfNone};
+ghost use Rattle.std.specs.Prelude.{◌≡◌, ◌≢◌, ◌%◌, ◌^◌, ◌<◌, IfSome, IfNone, Some};
 ghost use Rattle.tv_isa.specs.declared.Instr.{Instr};
 ghost use Rattle.tv_isa.specs.Fields.{split, join, Fits};
+ghost use Rattle.tv_isa.specs.Formats.{u_imm, j_offset};
 ghost use Rattle.tv_isa.specs.Table.{reading, word_of, InRange, row_at, jalr_at, branch_at, load_at, store_at, op_imm_at, op_imm_32_at, op_at, op_32_at, misc_mem_at, amo_at, amo_word_at, amo_double_at, system_at};
 
 use crate::Instr;
@@ -19,45 +20,78 @@ pub fn decode(word: u32) -> Option<Instr>
     ensures found { IfSome result (λ i. InRange i × (word_of i ≡ word)) }
     ensures none { IfNone result ((i : Instr) → InRange i → word_of i ≢ word) }
 {
-    row_of(word, split_word(word))
+    row_of(word)
 }
 
-// The instruction of a word with these fields, by opcode.
+// The instruction of a word by opcode: each arm cuts the fields that its format has.
 #[inline(always)]
-#[tactic(auto, unfolding(crate::specs::Table::row_at, crate::specs::Table::word_of, crate::specs::Fields::join))]
-fn row_of(word: u32, f: Fields) -> Option<Instr>
-    requires fits { Fits f }
-    requires fields { f ≡ split word }
-    ensures exact { result ≡ row_at word f }
-    ensures found { IfSome result (λ i. InRange i × (word_of i ≡ join f)) }
+#[tactic(auto, unfolding(crate::specs::Table::row_at))]
+fn row_of(word: u32) -> Option<Instr>
+    ensures exact { result ≡ row_at word (split word) }
+    ensures found { IfSome result (λ i. InRange i × (word_of i ≡ join (split word))) }
 {
-    let rd = f.rd;
-    match f.opcode {
-        0x37 => Some(Instr::Lui {
-            rd,
-            imm: u_immediate(f),
-        }),
-        0x17 => Some(Instr::Auipc {
-            rd,
-            imm: u_immediate(f),
-        }),
-        0x6f => Some(Instr::Jal {
-            rd,
-            offset: j_immediate(f),
-        }),
-        0x67 => jalr_of(f),
-        0x63 => branch_of(f),
-        0x03 => load_of(f),
-        0x23 => store_of(f),
-        0x13 => op_imm_of(f),
-        0x1b => op_imm_32_of(f),
-        0x33 => op_of(f),
-        0x3b => op_32_of(f),
-        0x0f => misc_mem_of(word, f),
-        0x2f => amo_of(f),
-        0x73 => system_of(word, f),
+    match (word & 0x7f) as u8 {
+        0x37 => lui_of(split_word(word)),
+        0x17 => auipc_of(split_word(word)),
+        0x6f => jal_of(split_word(word)),
+        0x67 => jalr_of(split_word(word)),
+        0x63 => branch_of(split_word(word)),
+        0x03 => load_of(split_word(word)),
+        0x23 => store_of(split_word(word)),
+        0x13 => op_imm_of(split_word(word)),
+        0x1b => op_imm_32_of(split_word(word)),
+        0x33 => op_of(split_word(word)),
+        0x3b => op_32_of(split_word(word)),
+        0x0f => misc_mem_of(word, split_word(word)),
+        0x2f => amo_of(split_word(word)),
+        0x73 => system_of(word, split_word(word)),
         _ => None,
     }
+}
+
+// LUI.
+#[inline(always)]
+#[tactic(auto, unfolding(crate::specs::Table::word_of, crate::specs::Fields::join))]
+fn lui_of(f: Fields) -> Option<Instr>
+    requires fits { Fits f }
+    requires opcode { f.opcode ≡ 0x37 }
+    ensures exact { result ≡ Some (Instr.Lui f.rd (u_imm f)) }
+    ensures found { IfSome result (λ i. InRange i × (word_of i ≡ join f)) }
+{
+    Some(Instr::Lui {
+        rd: f.rd,
+        imm: u_immediate(f),
+    })
+}
+
+// AUIPC.
+#[inline(always)]
+#[tactic(auto, unfolding(crate::specs::Table::word_of, crate::specs::Fields::join))]
+fn auipc_of(f: Fields) -> Option<Instr>
+    requires fits { Fits f }
+    requires opcode { f.opcode ≡ 0x17 }
+    ensures exact { result ≡ Some (Instr.Auipc f.rd (u_imm f)) }
+    ensures found { IfSome result (λ i. InRange i × (word_of i ≡ join f)) }
+{
+    Some(Instr::Auipc {
+        rd: f.rd,
+        imm: u_immediate(f),
+    })
+}
+
+// JAL.
+#[inline(always)]
+#[tactic(auto, unfolding(crate::specs::Table::word_of, crate::specs::Fields::join))]
+fn jal_of(f: Fields) -> Option<Instr>
+    requires fits { Fits f }
+    requires opcode { f.opcode ≡ 0x6f }
+    ensures exact { result ≡ Some (Instr.Jal f.rd (j_offset f)) }
+    ensures found { IfSome result (λ i. InRange i × (word_of i ≡ join f)) }
+{
+    Some(Instr::Jal {
+        rd: f.rd,
+        offset: j_immediate(f),
+    })
 }
 
 // JALR.

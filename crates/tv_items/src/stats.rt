@@ -1,6 +1,6 @@
 //! Statistics in a fixed buffer.
 
-ghost use Rattle.std.specs.Prelude.{◌≡◌, []};
+ghost use Rattle.std.specs.Prelude.{◌≡◌, ◌≤◌, [], length};
 ghost use Rattle.tv_items.specs.Buffers.{pushed_below};
 
 use arrayvec::ArrayVec;
@@ -55,9 +55,10 @@ impl Stats {
         }
     }
 
-    /// The tags with their numbers, in the order in which they were added.
+    /// The tags with their numbers, in the order in which they were added, at most [`STATS`].
     pub fn as_slice(&self) -> &[(u16, u64)]
-        ensures { result.now ≡ self.now }
+        ensures numbers { result.now ≡ self.now }
+        ensures few { length result.now ≤ STATS }
     {
         &self.pairs
     }

@@ -50,12 +50,10 @@ fn read_each(alloc: Global, items: &[Value]) -> Result<NameList, FileFault>
 {
     let mut names = NameList::new();
     for place in 0..items.len() {
-        match read_socket(alloc, &items[place], place, &names) {
-            Ok(name) => match names.push(alloc, name) {
-                Ok(()) => {}
-                Err(_) => return Err(FileFault::Memory),
-            },
-            Err(fault) => return Err(fault),
+        let name = read_socket(alloc, &items[place], place, &names)?;
+        match names.push(alloc, name) {
+            Ok(()) => {}
+            Err(_) => return Err(FileFault::Memory),
         }
     }
     Ok(names)

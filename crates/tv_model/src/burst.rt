@@ -25,15 +25,17 @@ pub fn run_events(hart: &mut Hart, local: &mut Local, number: HartNo, most: u32)
     ensures all { result.1 ≡ Shown.Nothing → result.0 ≡ most }
     ensures same { result.0 ≡ 0 → (hart.new ≡ hart.old) × (local.new ≡ local.old) × (result.1 ≡ Shown.Nothing) }
 {
-    for made in 0..most {
+    let mut left = most;
+    while left > 0 {
         let lines = local.lines(number);
         match hart.step(local, lines) {
             Did::Retired | Did::Trapped(_) => {}
             Did::Held | Did::Full => unreachable!(),
         }
+        left -= 1;
         match local.take_shown() {
             Shown::Nothing => {}
-            shown => return (made + 1, shown),
+            shown => return (most - left, shown),
         }
     }
     (most, Shown::Nothing)

@@ -80,10 +80,8 @@ fn step_events(monitor: &mut Monitor, hart: HartNo, count: u32) -> Result<(), St
 {
     let mut left = count;
     while left > 0 {
-        match monitor.burst(hart, left) {
-            Ok(made) => left -= made,
-            Err(fault) => return Err(fault),
-        }
+        let made = monitor.burst(hart, left)?;
+        left -= made;
     }
     Ok(())
 }
@@ -93,10 +91,7 @@ fn step_each(monitor: &mut Monitor, entry: &Entry, count: u32) -> Result<(), Ste
     ensures { StepsOften monitor.old.guest monitor.new.guest entry.now count result }
 {
     for _time in 0..count {
-        match monitor.step(entry) {
-            Ok(()) => {}
-            Err(fault) => return Err(fault),
-        }
+        monitor.step(entry)?;
     }
     Ok(())
 }

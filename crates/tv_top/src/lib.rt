@@ -135,6 +135,3 @@ pub fn no_failed_put_ends_well()
     ensures { (words : List (List ℕ)) (before after : ToldOutside) (ended : Ended) → Answers words before after ended → ended.status ≡ 0
         → IsSome before.out.script → after.out.faults ≡ before.out.faults }
 {}
-
-#[cfg(test)]
-mod tests;

@@ -1,5 +1,4 @@
-use Rattle.std.proofs.Common.{◌≡◌, ℕ, IfSome, subst, ap, ◌∙◌}
-use Rattle.tv_isa.specs.Fields.{join}
+use Rattle.std.proofs.Common.{◌≡◌, ℕ, IfSome, subst}
 use Rattle.tv_isa.specs.Table.{word_of, InRange}
 use Rattle.tv_isa.proofs.Words.{join_split}
 use Rattle.tv_isa.proofs.reader.decode.Goals as goal
@@ -7,5 +6,5 @@ use Rattle.tv_isa.proofs.reader.decode.Goals as goal
 pub returns-clause-found : goal.returns-clause-found
 returns-clause-found c =
     subst (λ (w : ℕ). IfSome c.row_of.result (λ i. InRange i × (word_of i ≡ w)))
-    (ap join c.split_word.ensures.value ∙ join_split c.args.word)
+    (join_split c.args.word)
     c.row_of.ensures.found

@@ -7,6 +7,6 @@ loop-left-preserved c =
     let done = c.args.count - c.loop-left.left in
     record {
       few = omega (arith, c.loop-left.invariant.few);
-      made = made-events c.args.monitor.now.guest c.loop-left.monitor.guest c.burst.new.self.guest c.args.hart done c.in-Ok.made (c.args.count - (c.loop-left.left - c.in-Ok.made))
-          c.loop-left.invariant.made c.in-Ok.ensures.moves (omega (arith, c.loop-left.invariant.few, c.in-Ok.ensures.few));
+      made = made-events c.args.monitor.now.guest c.loop-left.monitor.guest c.burst.new.self.guest c.args.hart done c.in_ok-made.made (c.args.count - (c.loop-left.left - c.in_ok-made.made))
+          c.loop-left.invariant.made c.in_ok-made.ensures.moves (omega (arith, c.loop-left.invariant.few, c.in_ok-made.ensures.few));
     }

@@ -1,0 +1,5 @@
+pub mod Claims
+pub mod Desk
+pub mod Rule
+pub mod Seats
+pub mod Steps

@@ -1,0 +1,4 @@
+pub mod Spans
+pub mod Runs
+pub mod Walks
+pub mod Pieces
