@@ -7,11 +7,9 @@ use Rattle.std.proofs.lemmas.Option.{slice_get_within, get_or_from_slice_get}
 use Rattle.std.specs.List.{AllByRecursion, slice_get}
 use Rattle.tv_journal.specs.declared.Entry.{Entry}
 use Rattle.tv_journal.specs.declared.Entry.TheVariants as entry
-use Rattle.tv_journal.specs.declared.record.Record.{Record}
-use Rattle.tv_journal.specs.declared.record.Record.TheVariants as record_of
-use Rattle.tv_journal.specs.Entries.{entries_in, entries_of}
+use Rattle.tv_journal.specs.Entries.{Record, Run, One, entries_in, entries_of}
 use Rattle.tv_journal.specs.Grammar.{Differs, AreApart, last_record}
-use Rattle.tv_journal.specs.Journals.{added, events_added, hart_added}
+use Rattle.tv_journal.specs.Stores.{run_of, added, events_added, events_behind}
 
 -- the last of the records, or else the one that stands before them
 abbrev pub last_after : Option Record → List Record → Option Record
@@ -61,10 +59,10 @@ apart-front before [] r apart = (tt, apart.0)
 apart-front before (x ∷ rs) r apart = let more = apart-front (Some x) rs r apart.1 in ((apart.0, more.0), more.1)
 
 -- how long a run is does not matter to what stands before it
-pub differs-same : (before : Option Record) (hart m n : ℕ) → Differs before (record_of.Hart hart m) → Differs before (record_of.Hart hart n)
+pub differs-same : (before : Option Record) (hart m n : ℕ) → Differs before (Run hart m) → Differs before (Run hart n)
 differs-same None hart m n differs = tt
-differs-same (Some (record_of.Tick _)) hart m n differs = tt
-differs-same (Some (record_of.Hart _ _)) hart m n differs = differs
+differs-same (Some (One _)) hart m n differs = tt
+differs-same (Some (Run _ _)) hart m n differs = differs
 
 -- records with a last one are those before it and that one
 pub ends-with : (rs : List Record) (r : Record) → last_record rs ≡ Some r → rs ≡ take (length rs - 1) rs ++ r ∷ []
@@ -85,32 +83,32 @@ pub entries-push : (rs : List Record) (r : Record) → entries_of (rs ++ r ∷ [
 entries-push rs r = flat_map-append entries_in rs (r ∷ []) ∙ ap (λ (es : List Entry). entries_of rs ++ es) (append-nil (entries_in r))
 
 -- the last record with so many events more
-pub entries-longer : (rs : List Record) (hart count more : ℕ) → last_record rs ≡ Some (record_of.Hart hart count)
-    → entries_of (set rs (length rs - 1) (record_of.Hart hart (count + more))) ≡ entries_of rs ++ replicate more (entry.Hart hart)
+pub entries-longer : (rs : List Record) (hart count more : ℕ) → last_record rs ≡ Some (Run hart count)
+    → entries_of (set rs (length rs - 1) (Run hart (count + more))) ≡ entries_of rs ++ replicate more (entry.Hart hart)
 entries-longer rs hart count more is =
     let front = take (length rs - 1) rs in
-    ap entries_of (set-last rs (record_of.Hart hart count) (record_of.Hart hart (count + more)) is)
-    ∙ entries-push front (record_of.Hart hart (count + more))
+    ap entries_of (set-last rs (Run hart count) (Run hart (count + more)) is)
+    ∙ entries-push front (Run hart (count + more))
     ∙ ap (λ (es : List Entry). entries_of front ++ es) (replicate-more count more (entry.Hart hart))
     ∙ sym (append_assoc (entries_of front) (replicate count (entry.Hart hart)) (replicate more (entry.Hart hart)))
-    ∙ ap (λ (es : List Entry). es ++ replicate more (entry.Hart hart)) (sym (ap entries_of (ends-with rs (record_of.Hart hart count) is) ∙ entries-push front (record_of.Hart hart count)))
+    ∙ ap (λ (es : List Entry). es ++ replicate more (entry.Hart hart)) (sym (ap entries_of (ends-with rs (Run hart count) is) ∙ entries-push front (Run hart count)))
 
-pub entries-hart_added : (rs : List Record) (hart more : ℕ) (last : Option Record) → last_record rs ≡ last
-    → entries_of (hart_added rs hart more last) ≡ entries_of rs ++ replicate more (entry.Hart hart)
-entries-hart_added rs hart more None is = entries-push rs (record_of.Hart hart more)
-entries-hart_added rs hart more (Some (record_of.Tick n)) is = entries-push rs (record_of.Hart hart more)
-entries-hart_added rs hart more (Some (record_of.Hart last count)) is =
+pub entries-behind : (rs : List Record) (hart more : ℕ) (last : Option Record) → last_record rs ≡ last
+    → entries_of (events_behind rs hart more (run_of last)) ≡ entries_of rs ++ replicate more (entry.Hart hart)
+entries-behind rs hart more None is = entries-push rs (Run hart more)
+entries-behind rs hart more (Some (One e)) is = entries-push rs (Run hart more)
+entries-behind rs hart more (Some (Run last count)) is =
     elim (eqb_tells hart last) [
       | inl same ↦ rw same.0 (entries-longer rs last count more is ∙ ap (λ (h : ℕ). entries_of rs ++ replicate more (entry.Hart h)) (sym same.1))
-      | inr other ↦ rw other.0 (entries-push rs (record_of.Hart hart more))
+      | inr other ↦ rw other.0 (entries-push rs (Run hart more))
     ]
 
 pub entries-events : (rs : List Record) (hart more : ℕ) → entries_of (events_added rs hart more) ≡ entries_of rs ++ replicate more (entry.Hart hart)
-entries-events rs hart more = entries-hart_added rs hart more (last_record rs) refl
+entries-events rs hart more = entries-behind rs hart more (last_record rs) refl
 
 pub entries-added : (rs : List Record) (e : Entry) → entries_of (added rs e) ≡ entries_of rs ++ e ∷ []
-entries-added rs (entry.Tick n) = entries-push rs (record_of.Tick n)
 entries-added rs (entry.Hart hart) = entries-events rs hart 1
+entries-added rs e = entries-push rs (One e)
 
 -- a record in place of the last one
 pub each-longer : (P : Record → Type 0) (rs : List Record) (old r : Record) → last_record rs ≡ Some old → AllByRecursion P rs → P r
@@ -119,10 +117,10 @@ each-longer P rs old r is each here =
     let front : AllByRecursion P (take (length rs - 1) rs ++ old ∷ []) = rw (← ends-with rs old is) each in
     rw (set-last rs old r is) (each-push P (take (length rs - 1) rs) r (each-front P _ _ front).0 here)
 
-pub apart-longer : (rs : List Record) (hart count later : ℕ) → last_record rs ≡ Some (record_of.Hart hart count) → AreApart None rs
-    → AreApart None (set rs (length rs - 1) (record_of.Hart hart later))
+pub apart-longer : (rs : List Record) (hart count later : ℕ) → last_record rs ≡ Some (Run hart count) → AreApart None rs
+    → AreApart None (set rs (length rs - 1) (Run hart later))
 apart-longer rs hart count later is apart =
-    let front : AreApart None (take (length rs - 1) rs ++ record_of.Hart hart count ∷ []) = rw (← ends-with rs (record_of.Hart hart count) is) apart in
-    let parts = apart-front None (take (length rs - 1) rs) (record_of.Hart hart count) front in
-    rw (set-last rs (record_of.Hart hart count) (record_of.Hart hart later) is)
-    (apart-push None (take (length rs - 1) rs) (record_of.Hart hart later) parts.0 (differs-same _ hart count later parts.1))
+    let front : AreApart None (take (length rs - 1) rs ++ Run hart count ∷ []) = rw (← ends-with rs (Run hart count) is) apart in
+    let parts = apart-front None (take (length rs - 1) rs) (Run hart count) front in
+    rw (set-last rs (Run hart count) (Run hart later) is)
+    (apart-push None (take (length rs - 1) rs) (Run hart later) parts.0 (differs-same _ hart count later parts.1))

@@ -5,21 +5,19 @@ use Rattle.std.proofs.lemmas.List.{length-take}
 use Rattle.std.specs.List.{AllByRecursion}
 use Rattle.tv_journal.specs.declared.Entry.{Entry}
 use Rattle.tv_journal.specs.declared.Entry.TheVariants as entry
-use Rattle.tv_journal.specs.declared.record.Record.{Record}
-use Rattle.tv_journal.specs.declared.record.Record.TheVariants as record_of
-use Rattle.tv_journal.specs.Entries.{entries_of, joined, records_of, record_count}
+use Rattle.tv_journal.specs.Entries.{Record, Run, One, entries_of, joined, records_of, record_count}
 use Rattle.tv_journal.specs.Grammar.{AreApart}
 use Rattle.tv_journal.proofs.Records.{IsSome, records-of-runs}
 
 -- an event before records
 pub entries-joined : (e : Entry) (rs : List Record) → entries_of (joined e rs) ≡ e ∷ entries_of rs
-entries-joined (entry.Tick n) rs = refl
 entries-joined (entry.Hart hart) [] = refl
-entries-joined (entry.Hart hart) (record_of.Tick n ∷ rs) = refl
-entries-joined (entry.Hart hart) (record_of.Hart other count ∷ rs) = elim (eqb_tells hart other) [
+entries-joined (entry.Hart hart) (One e ∷ rs) = refl
+entries-joined (entry.Hart hart) (Run other count ∷ rs) = elim (eqb_tells hart other) [
   | inl same ↦ rw (same.0, add-one) (ap (λ (h : ℕ). entry.Hart h ∷ (replicate count (entry.Hart other) ++ entries_of rs)) (sym same.1))
   | inr apart ↦ rw apart.0 refl
 ]
+entries-joined e rs = refl
 
 -- the events of the records of entries are those entries
 pub entries-again : (es : List Entry) → entries_of (records_of es) ≡ es
@@ -29,37 +27,37 @@ entries-again (e ∷ es) = entries-joined e (records_of es) ∙ ap (λ (more : L
 
 -- each of those records has an event, and none is a run of the hart of the one before it
 pub some-joined : (e : Entry) (rs : List Record) → AllByRecursion IsSome rs → AllByRecursion IsSome (joined e rs)
-some-joined (entry.Tick n) rs each = (tt, each)
 some-joined (entry.Hart hart) [] each = (omega arith, tt)
-some-joined (entry.Hart hart) (record_of.Tick n ∷ rs) each = (omega arith, each)
-some-joined (entry.Hart hart) (record_of.Hart other count ∷ rs) each = elim (eqb_tells hart other) [
+some-joined (entry.Hart hart) (One e ∷ rs) each = (omega arith, each)
+some-joined (entry.Hart hart) (Run other count ∷ rs) each = elim (eqb_tells hart other) [
   | inl same ↦ rw same.0 (let some : 0 < count + 1 = omega arith in (some, each.1))
   | inr apart ↦ rw apart.0 (let some : 0 < 1 = omega arith in (some, each))
 ]
+some-joined e rs each = (tt, each)
 
 pub each-some : (es : List Entry) → AllByRecursion IsSome (records_of es)
 unfolding records_of
 each-some [] = tt
 each-some (e ∷ es) = some-joined e (records_of es) (each-some es)
 
-apart-longer-first : (hart m n : ℕ) (rs : List Record) → AreApart (Some (record_of.Hart hart m)) rs → AreApart (Some (record_of.Hart hart n)) rs
+apart-longer-first : (hart m n : ℕ) (rs : List Record) → AreApart (Some (Run hart m)) rs → AreApart (Some (Run hart n)) rs
 apart-longer-first hart m n [] apart = tt
-apart-longer-first hart m n (record_of.Tick k ∷ rs) apart = apart
-apart-longer-first hart m n (record_of.Hart other k ∷ rs) apart = apart
+apart-longer-first hart m n (One e ∷ rs) apart = apart
+apart-longer-first hart m n (Run other k ∷ rs) apart = apart
 
-apart-behind-tick : (n : ℕ) (rs : List Record) → AreApart None rs → AreApart (Some (record_of.Tick n)) rs
-apart-behind-tick n [] apart = tt
-apart-behind-tick n (record_of.Tick k ∷ rs) apart = apart
-apart-behind-tick n (record_of.Hart hart k ∷ rs) apart = apart
+apart-behind-one : (e : Entry) (rs : List Record) → AreApart None rs → AreApart (Some (One e)) rs
+apart-behind-one e [] apart = tt
+apart-behind-one e (One f ∷ rs) apart = apart
+apart-behind-one e (Run hart k ∷ rs) apart = apart
 
 pub apart-joined : (e : Entry) (rs : List Record) → AreApart None rs → AreApart None (joined e rs)
-apart-joined (entry.Tick n) rs apart = (tt, apart-behind-tick n rs apart)
 apart-joined (entry.Hart hart) [] apart = (tt, tt)
-apart-joined (entry.Hart hart) (record_of.Tick n ∷ rs) apart = (tt, apart)
-apart-joined (entry.Hart hart) (record_of.Hart other count ∷ rs) apart = elim (eqb_tells hart other) [
+apart-joined (entry.Hart hart) (One e ∷ rs) apart = (tt, apart)
+apart-joined (entry.Hart hart) (Run other count ∷ rs) apart = elim (eqb_tells hart other) [
   | inl same ↦ rw same.0 (tt, apart-longer-first other count (count + 1) rs apart.1)
   | inr differs ↦ rw differs.0 (tt, ((λ is. differs.1 (sym is)), apart.1))
 ]
+apart-joined e rs apart = (tt, apart-behind-one e rs apart)
 
 pub are-apart : (es : List Entry) → AreApart None (records_of es)
 unfolding records_of

@@ -1,24 +1,32 @@
 -- What the reader has read is the front of some journal file.
-use Rattle.std.proofs.Common.{◌≡◌, ◌⊎◌, ◌&&◌, ◌||◌, not, ℕ, zero, suc, ◌+◌, ◌-◌, ◌^◌, ◌<◌, ◌≤◌, ltb, List, [], ◌∷◌, ◌++◌, Option, Some, None, Bool, true, false, cond, eqb, length, get_or, take, drop, refl, ap, sym, ◌∙◌, subst, append_assoc, append-nil, arith, length-append, inl, inr}
+use Rattle.std.proofs.Common.{◌≡◌, ◌⊎◌, ◌&&◌, ◌||◌, not, ℕ, zero, suc, ◌+◌, ◌-◌, ◌^◌, ◌<◌, ◌≤◌, ltb, leb, List, [], ◌∷◌, ◌++◌, Option, Some, None, Bool, true, false, cond, eqb, length, get_or, take, drop, refl, ap, sym, ◌∙◌, subst, append_assoc, append-nil, arith, length-append, inl, inr}
 use Rattle.std.specs.Prelude.{codes, flat_map}
-use Rattle.std.specs.Int.{w32, from_le_bytes}
-use Rattle.std.proofs.lemmas.Bool.{ltb-true, ltb-false, eqb-true, eqb-false, false≢true}
+use Rattle.std.specs.List.{AllByRecursion}
+use Rattle.std.specs.Int.{w16, w32, from_le_bytes}
+use Rattle.std.proofs.lemmas.Bool.{ltb-true, ltb-false, leb-true, eqb-true, eqb-false, false≢true}
 use Rattle.std.proofs.lemmas.Option.{none-some}
 use Rattle.std.proofs.lemmas.Grind.{flat_map-append}
 use Rattle.std.proofs.lemmas.List.{take-append-le, drop-append-le, take_more, take_all, drop_all}
-use Rattle.std.proofs.lemmas.Nat.{le_bytes_4}
+use Rattle.std.proofs.lemmas.Nat.{le_bytes_2, le_bytes_4}
 use Rattle.tv_base.specs.declared.Why.{Why}
 use Rattle.tv_base.specs.declared.Why.TheVariants as why
 use Rattle.tv_journal.specs.declared.record.EndLine.{EndLine}
-use Rattle.tv_journal.specs.declared.record.Record.{Record}
-use Rattle.tv_journal.specs.declared.record.Record.TheVariants as record_of
+use Rattle.tv_items.specs.declared.action.Heard.TheVariants as heard
+use Rattle.tv_journal.specs.declared.Entry.{Entry}
+use Rattle.tv_journal.specs.declared.Entry.TheVariants as entry
+use Rattle.tv_journal.specs.declared.record.DeviceStep.{DeviceStep}
+use Rattle.tv_journal.specs.declared.record.DeviceStep.TheVariants as step
+use Rattle.tv_journal.specs.declared.reader.Code.{Code}
+use Rattle.tv_journal.specs.declared.reader.Code.TheVariants as code
 use Rattle.tv_journal.specs.declared.reader.Spot.{Spot}
 use Rattle.tv_journal.specs.declared.reader.Spot.TheVariants as spot
-use Rattle.tv_journal.specs.Entries.{entries_of}
-use Rattle.tv_journal.specs.Grammar.{number, record_bytes, lines_bytes, end_bytes, cause_byte, IsRecord, IsTick, Differs, AreLines, EndFits, last_record}
-use Rattle.tv_journal.specs.Reading.{Read, first_read, read_byte, read_at, is_full, has_end, is_of_hart, AreBytes, IsAt, line_so_far, bytes_so_far, Follows, moved, with_record, with_end, line_read, hart_read, number_read, cause_read, fixed_read}
+use Rattle.tv_journal.specs.Entries.{Record, Run, One, entries_of}
+use Rattle.tv_journal.specs.Grammar.{number, short, entry_spelled, record_bytes, lines_bytes, end_bytes, cause_byte, IsRecord, IsSingle, IsNoRun, Differs, AreLines, EndFits, last_record}
+use Rattle.tv_journal.specs.Reading.{Read, first_read, read_byte, read_at, is_full, has_end, is_of_hart, AreBytes, IsAt, line_so_far, bytes_so_far, Follows, moved, with_record, with_end, line_read, kind_read, step_read, device_read, outcome_read, code_read, code_byte, greatest_length, length_read, with_length, bytes_read, IsLengthByte, hart_read, number_read, cause_read, fixed_read}
+use Rattle.tv_journal.specs.Stores.{step_at, step_entry, step_kind}
+use Rattle.tv_journal.proofs.Kept.{differs-one}
+use Rattle.tv_journal.proofs.Stored.{step-spelled}
 use Rattle.tv_journal.proofs.Added.{last_after-none, each-push, apart-push, differs-same}
-use Rattle.tv_journal.proofs.Kept.{differs-tick}
 
 -- the same at a place that is known
 pub follows-at : (sp : Spot) (r : Read) (bytes : List ℕ) → r.spot ≡ sp → AreLines (record { records = r.records; end = r.end }) → IsAt sp r
@@ -82,7 +90,7 @@ lines-push rs (Some end) r ended =
 
 pub MayEnd : Option EndLine → Record → Type 0
 MayEnd None r = Unit {0}
-MayEnd (Some _) r = IsTick r
+MayEnd (Some _) r = IsNoRun r
 
 pub end-push : (rs : List Record) (end : Option EndLine) (r : Record) → EndFits rs end → MayEnd end r → EndFits (rs ++ r ∷ []) end
 unfolding MayEnd
@@ -93,7 +101,7 @@ end-push rs (Some end) r ended may =
       place = omega (arith, length-append rs (r ∷ []));
       cause = ended.cause;
       entries = rw (take-append-le end.records rs (r ∷ []) place) ended.entries;
-      after = rw (drop-append-le end.records rs (r ∷ []) place) (each-push IsTick (drop end.records rs) r ended.after may);
+      after = rw (drop-append-le end.records rs (r ∷ []) place) (each-push IsNoRun (drop end.records rs) r ended.after may);
     }
 
 pub are-push : (rs : List Record) (end : Option EndLine) (r : Record) → AreLines (record { records = rs; end = end }) → IsRecord r
@@ -143,50 +151,94 @@ not-true false is = refl
 pub not-full : (r : Read) → length r.records < 2 ^ 32 → is_full r ≡ false → length r.records < 2 ^ 32 - 1
 not-full r few is = let apart = eqb-false (length r.records) (2 ^ 32 - 1) is in omega arith
 
-pub differs-if : (before : Option Record) (hart : ℕ) → is_of_hart before hart ≡ false → Differs before (record_of.Hart hart 1)
+pub differs-if : (before : Option Record) (hart : ℕ) → is_of_hart before hart ≡ false → Differs before (Run hart 1)
 differs-if None hart is = tt
-differs-if (Some (record_of.Tick _)) hart is = tt
-differs-if (Some (record_of.Hart last _)) hart is = eqb-false hart last is
+differs-if (Some (One _)) hart is = tt
+differs-if (Some (Run last _)) hart is = eqb-false hart last is
 
-pub after-hart_kind : (r s : Read) (b : ℕ) → AreLines (record { records = r.records; end = r.end }) → b ≡ 0x01
-    → cond (has_end r.end || is_full r) None (Some (moved r spot.Hart)) ≡ Some s
-    → Follows s ((codes "TVJ1" ++ (lines_bytes r.records r.end ++ [])) ++ b ∷ [])
-after-hart_kind r s b are kind is =
-    let parts = if_false (has_end r.end || is_full r) (moved r spot.Hart) s is in
-    let free = neither (has_end r.end) (is_full r) parts.0 in
-    rw kind (subst (λ (t : Read). Follows t ((codes "TVJ1" ++ (lines_bytes r.records r.end ++ [])) ++ 0x01 ∷ [])) parts.1
-    (record { lines = are; at = (no-end r.end free.0, not-full r are.few free.1); bytes_are = more-in-line (lines_bytes r.records r.end) [] 0x01 }))
+-- the kind of a line
+abbrev pub LineFront : Read → Read → ℕ → Type 0
+LineFront r s b = Follows s ((codes "TVJ1" ++ (lines_bytes r.records r.end ++ [])) ++ b ∷ [])
 
-pub after-tick_kind : (r s : Read) (b : ℕ) → AreLines (record { records = r.records; end = r.end }) → b ≡ 0x0B
-    → cond (is_full r) None (Some (moved r spot.Tick)) ≡ Some s
-    → Follows s ((codes "TVJ1" ++ (lines_bytes r.records r.end ++ [])) ++ b ∷ [])
-after-tick_kind r s b are kind is =
-    let parts = if_false (is_full r) (moved r spot.Tick) s is in
-    rw kind (subst (λ (t : Read). Follows t ((codes "TVJ1" ++ (lines_bytes r.records r.end ++ [])) ++ 0x0B ∷ [])) parts.1
-    (record { lines = are; at = (omega arith, tt, not-full r are.few parts.0); bytes_are = more-in-line (lines_bytes r.records r.end) [] 0x0B }))
+-- a kind that leads to the fields of its line
+pub after-kind : (r s : Read) (next : Spot) (b : ℕ) → AreLines (record { records = r.records; end = r.end }) → IsAt next (moved r next)
+    → line_so_far next (moved r next) ≡ b ∷ [] → bytes_so_far next (moved r next) ≡ codes "TVJ1" ++ (lines_bytes r.records r.end ++ line_so_far next (moved r next))
+    → Some (moved r next) ≡ Some s → LineFront r s b
+after-kind r s next b are at begun so_far is =
+    is-then (moved r next) s _ is
+    (record {
+      lines = are;
+      at = at;
+      bytes_are =
+          more-in-line (lines_bytes r.records r.end) [] b ∙ ap (λ (xs : List ℕ). codes "TVJ1" ++ (lines_bytes r.records r.end ++ xs)) (sym begun) ∙ sym so_far;
+    })
 
-pub after-end_kind : (r s : Read) (b : ℕ) → AreLines (record { records = r.records; end = r.end }) → b ≡ 0x10
-    → cond (has_end r.end) None (Some (moved r spot.Cause)) ≡ Some s
-    → Follows s ((codes "TVJ1" ++ (lines_bytes r.records r.end ++ [])) ++ b ∷ [])
-after-end_kind r s b are kind is =
-    let parts = if_false (has_end r.end) (moved r spot.Cause) s is in
-    rw kind (subst (λ (t : Read). Follows t ((codes "TVJ1" ++ (lines_bytes r.records r.end ++ [])) ++ 0x10 ∷ [])) parts.1
-    (record { lines = are; at = no-end r.end parts.0; bytes_are = more-in-line (lines_bytes r.records r.end) [] 0x10 }))
+-- the kinds of steps
+step-is : (b : ℕ) (v : Bool) (here found : DeviceStep) (rest : Option DeviceStep) → cond v (Some here) rest ≡ Some found → ((v ≡ true) × (here ≡ found)) ⊎ ((v ≡ false) × (rest ≡ Some found))
+step-is b true here found rest is = inl (refl, cc)
+step-is b false here found rest is = inr (refl, is)
 
-pub after-line : (r s : Read) (b : ℕ) → AreLines (record { records = r.records; end = r.end }) → line_read r b ≡ Some s
-    → Follows s ((codes "TVJ1" ++ (lines_bytes r.records r.end ++ [])) ++ b ∷ [])
-after-line r s b are is =
-    let lines = lines_bytes r.records r.end in
-    elim (either (eqb b 0x00) _ _ s is) [
-      | inl closing ↦ is-then _ s _ closing.1 (rw (eqb-true b 0x00 closing.0) (record { lines = are; at = (omega arith, refl); bytes_are = more-in-line lines [] 0x00 }))
-      | inr no_closing ↦ elim (either (eqb b 0x01) _ _ s no_closing.1) [
-        | inl hart ↦ after-hart_kind r s b are (eqb-true b 0x01 hart.0) hart.1
-        | inr no_hart ↦ elim (either (eqb b 0x0B) _ _ s no_hart.1) [
-          | inl tick ↦ after-tick_kind r s b are (eqb-true b 0x0B tick.0) tick.1
-          | inr no_tick ↦ elim (either (eqb b 0x10) _ _ s no_tick.1) [
-            | inl end ↦ after-end_kind r s b are (eqb-true b 0x10 end.0) end.1
-            | inr no_end ↦ absurd (none-some s no_end.1)
+pub kind-of-step : (b : ℕ) (found : DeviceStep) → step_at b ≡ Some found → step_kind found ≡ b
+kind-of-step b found is =
+    elim (step-is b (eqb b 0x02) step.Take found _ is) [
+      | inl takes ↦ ap step_kind (sym takes.1) ∙ sym (eqb-true b 0x02 takes.0)
+      | inr no_take ↦ elim (step-is b (eqb b 0x03) step.Send found _ no_take.1) [
+        | inl send ↦ ap step_kind (sym send.1) ∙ sym (eqb-true b 0x03 send.0)
+        | inr no_send ↦ elim (step-is b (eqb b 0x04) step.ServeMem found _ no_send.1) [
+          | inl memory ↦ ap step_kind (sym memory.1) ∙ sym (eqb-true b 0x04 memory.0)
+          | inr no_memory ↦ elim (step-is b (eqb b 0x05) step.ServeIrq found _ no_memory.1) [
+            | inl irq ↦ ap step_kind (sym irq.1) ∙ sym (eqb-true b 0x05 irq.0)
+            | inr no_irq ↦ elim (step-is b (eqb b 0x06) step.Got found _ no_irq.1) [
+              | inl got ↦ ap step_kind (sym got.1) ∙ sym (eqb-true b 0x06 got.0)
+              | inr no_got ↦ elim (step-is b (eqb b 0x07) step.Reply found _ no_got.1) [
+                | inl reply ↦ ap step_kind (sym reply.1) ∙ sym (eqb-true b 0x07 reply.0)
+                | inr no_reply ↦ elim (step-is b (eqb b 0x08) step.Deliver found _ no_reply.1) [
+                  | inl deliver ↦ ap step_kind (sym deliver.1) ∙ sym (eqb-true b 0x08 deliver.0)
+                  | inr no_deliver ↦ elim (step-is b (eqb b 0x09) step.Intend found None no_deliver.1) [
+                    | inl intend ↦ ap step_kind (sym intend.1) ∙ sym (eqb-true b 0x09 intend.0)
+                    | inr none ↦ absurd (none-some found none.1)
+                  ]
+                ]
+              ]
+            ]
           ]
+        ]
+      ]
+    ]
+
+pub after-step : (r s : Read) (b : ℕ) (found : Option DeviceStep) → AreLines (record { records = r.records; end = r.end }) → length r.records < 2 ^ 32 - 1
+    → step_at b ≡ found → step_read r found ≡ Some s → LineFront r s b
+after-step r s b None are few found is = absurd (none-some s is)
+after-step r s b (Some here) are few found is =
+    after-kind r s (spot.Device here) b are few (ap (λ (n : ℕ). n ∷ []) (kind-of-step b here found)) refl is
+
+pub after-record_kind : (r s : Read) (b : ℕ) → AreLines (record { records = r.records; end = r.end }) → length r.records < 2 ^ 32 - 1 → kind_read r b ≡ Some s
+    → LineFront r s b
+after-record_kind r s b are few is =
+    elim (either (eqb b 0x01) _ _ s is) [
+      | inl hart ↦
+          let parts = if_false (has_end r.end) (moved r spot.Hart) s hart.1 in
+          after-kind r s spot.Hart b are (no-end r.end parts.0, few) (ap (λ (n : ℕ). n ∷ []) (sym (eqb-true b 0x01 hart.0))) refl (ap Some parts.1)
+      | inr no_hart ↦ elim (either (eqb b 0x0A) _ _ s no_hart.1) [
+        | inl outcome ↦ after-kind r s spot.Outcome b are few (ap (λ (n : ℕ). n ∷ []) (sym (eqb-true b 0x0A outcome.0))) refl outcome.1
+        | inr no_outcome ↦ elim (either (eqb b 0x0B) _ _ s no_outcome.1) [
+          | inl tick ↦ after-kind r s spot.Tick b are (omega arith, tt, few) (ap (λ (n : ℕ). n ∷ []) (sym (eqb-true b 0x0B tick.0))) refl tick.1
+          | inr no_tick ↦ after-step r s b (step_at b) are few refl no_tick.1
+        ]
+      ]
+    ]
+
+pub after-line : (r s : Read) (b : ℕ) → AreLines (record { records = r.records; end = r.end }) → line_read r b ≡ Some s → LineFront r s b
+after-line r s b are is =
+    elim (either (eqb b 0x00) _ _ s is) [
+      | inl closing ↦ after-kind r s spot.Closing b are (omega arith, refl) (ap (λ (n : ℕ). n ∷ []) (sym (eqb-true b 0x00 closing.0))) refl closing.1
+      | inr no_closing ↦ elim (either (eqb b 0x10) _ _ s no_closing.1) [
+        | inl end ↦
+            let parts = if_false (has_end r.end) (moved r spot.Cause) s end.1 in
+            after-kind r s spot.Cause b are (no-end r.end parts.0) (ap (λ (n : ℕ). n ∷ []) (sym (eqb-true b 0x10 end.0))) refl (ap Some parts.1)
+        | inr no_end ↦ elim (either (is_full r) None _ s no_end.1) [
+          | inl full ↦ absurd (none-some s full.1)
+          | inr free ↦ after-record_kind r s b are (not-full r are.few free.0) free.1
         ]
       ]
     ]
@@ -199,10 +251,10 @@ unfolding MayEnd
 may-end-none None r is = tt
 may-end-none (Some end) r is = absurd (none-some end (sym is))
 
-pub may-end-tick : (end : Option EndLine) (n : ℕ) → MayEnd end (record_of.Tick n)
+pub may-end-one : (end : Option EndLine) (e : Entry) → MayEnd end (One e)
 unfolding MayEnd
-may-end-tick None n = tt
-may-end-tick (Some end) n = tt
+may-end-one None e = tt
+may-end-one (Some end) e = tt
 
 pub after-hart : (r s : Read) (b : ℕ) → AreLines (record { records = r.records; end = r.end }) → IsAt spot.Hart r → hart_read r b ≡ Some s
     → Follows s ((codes "TVJ1" ++ (lines_bytes r.records r.end ++ 0x01 ∷ [])) ++ b ∷ [])
@@ -224,7 +276,7 @@ number-whole field b short bytes here test =
     (omega (arith, length-append field (b ∷ [])), bytes-push field b bytes here)
 
 pub after-count : (hart : ℕ) (r s : Read) (b : ℕ) → AreLines (record { records = r.records; end = r.end }) → IsAt (spot.Count hart) r → b < 256 → r.spot ≡ spot.Count hart
-    → number_read r (λ n. record_of.Hart hart n) (r.field ++ b ∷ []) ≡ Some s
+    → number_read r (λ n. Run hart n) (r.field ++ b ∷ []) ≡ Some s
     → Follows s ((codes "TVJ1" ++ (lines_bytes r.records r.end ++ 0x01 ∷ hart ∷ r.field)) ++ b ∷ [])
 after-count hart r s b are at here here_is is =
     let field = r.field ++ b ∷ [] in
@@ -234,16 +286,16 @@ after-count hart r s b are at here here_is is =
           (more-in-line (lines_bytes r.records r.end) (0x01 ∷ hart ∷ r.field) b))
       | inr long ↦
           let whole = number-whole r.field b at.0 at.1 here long.0 in
-          let parts = if_false (eqb (from_le_bytes w32 field) 0) (with_record r (record_of.Hart hart (from_le_bytes w32 field))) s long.1 in
+          let parts = if_false (eqb (from_le_bytes w32 field) 0) (with_record r (Run hart (from_le_bytes w32 field))) s long.1 in
           subst (λ (t : Read). Follows t ((codes "TVJ1" ++ (lines_bytes r.records r.end ++ 0x01 ∷ hart ∷ r.field)) ++ b ∷ [])) parts.1
-          (follows-record r (spot.Count hart) (record_of.Hart hart (from_le_bytes w32 field)) b are
+          (follows-record r (spot.Count hart) (Run hart (from_le_bytes w32 field)) b are
           (at.4, positive (from_le_bytes w32 field) parts.0, number-fits field whole.0 whole.1)
-          (differs-same (last_record r.records) hart 1 (from_le_bytes w32 field) at.5) at.3 (may-end-none r.end (record_of.Hart hart (from_le_bytes w32 field)) at.2)
+          (differs-same (last_record r.records) hart 1 (from_le_bytes w32 field) at.5) at.3 (may-end-none r.end (Run hart (from_le_bytes w32 field)) at.2)
           (ap (λ (xs : List ℕ). 0x01 ∷ hart ∷ xs) (sym (number-is field whole.0 whole.1))))
     ]
 
 pub after-tick : (r s : Read) (b : ℕ) → AreLines (record { records = r.records; end = r.end }) → IsAt spot.Tick r → b < 256 → r.spot ≡ spot.Tick
-    → number_read r (λ n. record_of.Tick n) (r.field ++ b ∷ []) ≡ Some s
+    → number_read r (λ n. One (entry.Tick n)) (r.field ++ b ∷ []) ≡ Some s
     → Follows s ((codes "TVJ1" ++ (lines_bytes r.records r.end ++ 0x0B ∷ r.field)) ++ b ∷ [])
 after-tick r s b are at here here_is is =
     let field = r.field ++ b ∷ [] in
@@ -253,12 +305,157 @@ after-tick r s b are at here here_is is =
           (more-in-line (lines_bytes r.records r.end) (0x0B ∷ r.field) b))
       | inr long ↦
           let whole = number-whole r.field b at.0 at.1 here long.0 in
-          let parts = if_false (eqb (from_le_bytes w32 field) 0) (with_record r (record_of.Tick (from_le_bytes w32 field))) s long.1 in
+          let parts = if_false (eqb (from_le_bytes w32 field) 0) (with_record r (One (entry.Tick (from_le_bytes w32 field)))) s long.1 in
           subst (λ (t : Read). Follows t ((codes "TVJ1" ++ (lines_bytes r.records r.end ++ 0x0B ∷ r.field)) ++ b ∷ [])) parts.1
-          (follows-record r spot.Tick (record_of.Tick (from_le_bytes w32 field)) b are
+          (follows-record r spot.Tick (One (entry.Tick (from_le_bytes w32 field))) b are
           (positive (from_le_bytes w32 field) parts.0, number-fits field whole.0 whole.1)
-          (differs-tick (last_record r.records) (from_le_bytes w32 field)) at.2 (may-end-tick r.end (from_le_bytes w32 field))
+          (differs-one (last_record r.records) (entry.Tick (from_le_bytes w32 field))) at.2 (may-end-one r.end (entry.Tick (from_le_bytes w32 field)))
           (ap (λ (xs : List ℕ). 0x0B ∷ xs) (sym (number-is field whole.0 whole.1))))
+    ]
+
+-- a record that is no run was read whole
+pub follows-one : (r : Read) (sp : Spot) (e : Entry) (b : ℕ) → AreLines (record { records = r.records; end = r.end }) → IsSingle e → length r.records < 2 ^ 32 - 1
+    → line_so_far sp r ++ b ∷ [] ≡ entry_spelled e
+    → Follows (with_record r (One e)) ((codes "TVJ1" ++ (lines_bytes r.records r.end ++ line_so_far sp r)) ++ b ∷ [])
+follows-one r sp e b are is few whole = follows-record r sp (One e) b are is (differs-one (last_record r.records) e) few (may-end-one r.end e) whole
+
+-- the device of a step
+pub single-step : (step : DeviceStep) (device : ℕ) → device < 8 → IsSingle (step_entry step device)
+single-step step.Take device low = low
+single-step step.Send device low = low
+single-step step.ServeMem device low = low
+single-step step.ServeIrq device low = low
+single-step step.Got device low = low
+single-step step.Reply device low = low
+single-step step.Deliver device low = low
+single-step step.Intend device low = low
+
+pub after-device : (step : DeviceStep) (r s : Read) (b : ℕ) → AreLines (record { records = r.records; end = r.end }) → IsAt (spot.Device step) r → device_read step r b ≡ Some s
+    → Follows s ((codes "TVJ1" ++ (lines_bytes r.records r.end ++ step_kind step ∷ [])) ++ b ∷ [])
+after-device step r s b are at is =
+    let parts = if_true (ltb b 8) (with_record r (One (step_entry step b))) s is in
+    subst (λ (t : Read). Follows t ((codes "TVJ1" ++ (lines_bytes r.records r.end ++ step_kind step ∷ [])) ++ b ∷ [])) parts.1
+    (follows-one r (spot.Device step) (step_entry step b) b are (single-step step b (ltb-true b 8 parts.0)) at (step-spelled step b))
+
+-- the device of what it heard, and its code
+pub after-outcome : (r s : Read) (b : ℕ) → AreLines (record { records = r.records; end = r.end }) → IsAt spot.Outcome r → outcome_read r b ≡ Some s
+    → Follows s ((codes "TVJ1" ++ (lines_bytes r.records r.end ++ 0x0A ∷ [])) ++ b ∷ [])
+after-outcome r s b are at is =
+    let parts = if_true (ltb b 8) (moved r (spot.Code b)) s is in
+    subst (λ (t : Read). Follows t ((codes "TVJ1" ++ (lines_bytes r.records r.end ++ 0x0A ∷ [])) ++ b ∷ [])) parts.1
+    (record { lines = are; at = (at, ltb-true b 8 parts.0); bytes_are = more-in-line (lines_bytes r.records r.end) (0x0A ∷ []) b })
+
+pub follows-code : (device : ℕ) (c : Code) (r : Read) → AreLines (record { records = r.records; end = r.end }) → IsAt (spot.Code device) r
+    → Follows (moved r (spot.Length device c)) ((codes "TVJ1" ++ (lines_bytes r.records r.end ++ 0x0A ∷ device ∷ [])) ++ code_byte c ∷ [])
+follows-code device c r are at = record {
+  lines = are;
+  at = (omega arith, tt, at.0, at.1);
+  bytes_are = more-in-line (lines_bytes r.records r.end) (0x0A ∷ device ∷ []) (code_byte c);
+}
+
+pub after-code : (device : ℕ) (r s : Read) (b : ℕ) → AreLines (record { records = r.records; end = r.end }) → IsAt (spot.Code device) r → code_read device r b ≡ Some s
+    → Follows s ((codes "TVJ1" ++ (lines_bytes r.records r.end ++ 0x0A ∷ device ∷ [])) ++ b ∷ [])
+after-code device r s b are at is =
+    elim (either (eqb b 0) _ _ s is) [
+      | inl done ↦ is-then _ s _ done.1 (rw (eqb-true b 0 done.0) (follows-code device code.Done r are at))
+      | inr no_done ↦ elim (either (eqb b 1) _ _ s no_done.1) [
+        | inl failed ↦ is-then _ s _ failed.1 (rw (eqb-true b 1 failed.0) (follows-code device code.Failed r are at))
+        | inr no_failed ↦ elim (either (eqb b 2) _ _ s no_failed.1) [
+          | inl bytes ↦ is-then _ s _ bytes.1 (rw (eqb-true b 2 bytes.0) (follows-code device code.Bytes r are at))
+          | inr no_bytes ↦ elim (either (eqb b 3) _ _ s no_bytes.1) [
+            | inl taken ↦ is-then _ s _ taken.1 (rw (eqb-true b 3 taken.0) (follows-code device code.Taken r are at))
+            | inr none ↦ absurd (none-some s none.1)
+          ]
+        ]
+      ]
+    ]
+
+-- the length of what it heard
+pub short-is : (bs : List ℕ) → length bs ≡ 2 → AreBytes bs → short (from_le_bytes w16 bs) ≡ bs
+short-is bs two each = le_bytes_2 bs (from_le_bytes w16 bs) two (λ i. bytes-at bs i each) refl
+
+pub are-bytes : (c : Code) (bs : List ℕ) → AllByRecursion (IsLengthByte c) bs → AreBytes bs
+are-bytes c [] each = tt
+are-bytes c (b ∷ bs) each = (each.0.0, are-bytes c bs each.1)
+
+pub length-push : (c : Code) (bs : List ℕ) (b : ℕ) → AllByRecursion (IsLengthByte c) bs → IsLengthByte c b → AllByRecursion (IsLengthByte c) (bs ++ b ∷ [])
+length-push c [] b each here = (here, tt)
+length-push c (x ∷ bs) b each here = (each.0, length-push c bs b each.1 here)
+
+-- a whole length
+pub follows-bytes : (device len b : ℕ) (r : Read) (v : Bool) → AreLines (record { records = r.records; end = r.end }) → IsAt (spot.Length device code.Bytes) r
+    → len ≤ 4096 → r.field ++ b ∷ [] ≡ short len → eqb len 0 ≡ v
+    → Follows (cond v (with_record r (One (entry.Did device (heard.Bytes [])))) (moved r (spot.Bytes device len)))
+    ((codes "TVJ1" ++ (lines_bytes r.records r.end ++ 0x0A ∷ device ∷ 2 ∷ r.field)) ++ b ∷ [])
+follows-bytes device len b r true are at most field_is test =
+    let none : len ≡ 0 = eqb-true len 0 test in
+    follows-one r (spot.Length device code.Bytes) (entry.Did device (heard.Bytes [])) b are (at.3, omega arith) at.2
+    (ap (λ (xs : List ℕ). 0x0A ∷ device ∷ 2 ∷ xs) (field_is ∙ ap short none))
+follows-bytes device len b r false are at most field_is test =
+    let some = eqb-false len 0 test in
+    record {
+      lines = are;
+      at = (omega arith, most, at.2, at.3);
+      bytes_are =
+          more-in-line (lines_bytes r.records r.end) (0x0A ∷ device ∷ 2 ∷ r.field) b
+          ∙ ap (λ (xs : List ℕ). codes "TVJ1" ++ (lines_bytes r.records r.end ++ 0x0A ∷ device ∷ 2 ∷ xs)) (field_is ∙ sym (append-nil (short len)));
+    }
+
+pub follows-length : (device len b : ℕ) (c : Code) (r : Read) → AreLines (record { records = r.records; end = r.end }) → IsAt (spot.Length device c) r
+    → len ≤ greatest_length c → r.field ++ b ∷ [] ≡ short len
+    → Follows (with_length device c r len) ((codes "TVJ1" ++ (lines_bytes r.records r.end ++ 0x0A ∷ device ∷ code_byte c ∷ r.field)) ++ b ∷ [])
+follows-length device len b code.Done r are at most field_is =
+    let none : len ≡ 0 = omega arith in
+    follows-one r (spot.Length device code.Done) (entry.Did device heard.Done) b are (at.3, tt) at.2
+    (ap (λ (xs : List ℕ). 0x0A ∷ device ∷ 0 ∷ xs) (field_is ∙ ap short none))
+follows-length device len b code.Failed r are at most field_is =
+    let none : len ≡ 0 = omega arith in
+    follows-one r (spot.Length device code.Failed) (entry.Did device heard.Failed) b are (at.3, tt) at.2
+    (ap (λ (xs : List ℕ). 0x0A ∷ device ∷ 1 ∷ xs) (field_is ∙ ap short none))
+follows-length device len b code.Bytes r are at most field_is = follows-bytes device len b r (eqb len 0) are at most field_is refl
+follows-length device len b code.Taken r are at most field_is =
+    follows-one r (spot.Length device code.Taken) (entry.Did device (heard.Taken len)) b are (at.3, most) at.2
+    (ap (λ (xs : List ℕ). 0x0A ∷ device ∷ 3 ∷ xs) field_is)
+
+pub after-length : (device : ℕ) (c : Code) (r s : Read) (b : ℕ) → AreLines (record { records = r.records; end = r.end }) → IsAt (spot.Length device c) r → b < 256
+    → r.spot ≡ spot.Length device c → length_read device c r b (r.field ++ b ∷ []) ≡ Some s
+    → Follows s ((codes "TVJ1" ++ (lines_bytes r.records r.end ++ 0x0A ∷ device ∷ code_byte c ∷ r.field)) ++ b ∷ [])
+after-length device c r s b are at here here_is is =
+    let field = r.field ++ b ∷ [] in
+    elim (either (ltb (length field) 2) _ _ s is) [
+      | inl short ↦
+          let parts = if_true (leb b (greatest_length c)) (record r { field = field }) s short.1 in
+          subst (λ (t : Read). Follows t ((codes "TVJ1" ++ (lines_bytes r.records r.end ++ 0x0A ∷ device ∷ code_byte c ∷ r.field)) ++ b ∷ [])) parts.1
+          (follows-at (spot.Length device c) (record r { field = field }) _ here_is are
+          (ltb-true (length field) 2 short.0, length-push c r.field b at.1 (here, leb-true b (greatest_length c) parts.0), at.2, at.3)
+          (more-in-line (lines_bytes r.records r.end) (0x0A ∷ device ∷ code_byte c ∷ r.field) b))
+      | inr long ↦
+          let parts = if_true (leb (from_le_bytes w16 field) (greatest_length c)) (with_length device c r (from_le_bytes w16 field)) s long.1 in
+          let more = ltb-false (length field) 2 long.0 in
+          let two : length field ≡ 2 = omega (arith, length-append r.field (b ∷ []), at.0) in
+          subst (λ (t : Read). Follows t ((codes "TVJ1" ++ (lines_bytes r.records r.end ++ 0x0A ∷ device ∷ code_byte c ∷ r.field)) ++ b ∷ [])) parts.1
+          (follows-length device (from_le_bytes w16 field) b c r are at (leb-true _ _ parts.0)
+          (sym (short-is field two (bytes-push r.field b (are-bytes c r.field at.1) here))))
+    ]
+
+-- the bytes that it heard
+pub after-bytes : (device len : ℕ) (r s : Read) (b : ℕ) → AreLines (record { records = r.records; end = r.end }) → IsAt (spot.Bytes device len) r
+    → r.spot ≡ spot.Bytes device len → bytes_read device len r (r.field ++ b ∷ []) ≡ Some s
+    → Follows s ((codes "TVJ1" ++ (lines_bytes r.records r.end ++ 0x0A ∷ device ∷ 2 ∷ (short len ++ r.field))) ++ b ∷ [])
+after-bytes device len r s b are at here_is is =
+    let field = r.field ++ b ∷ [] in
+    let more : (short len ++ r.field) ++ b ∷ [] ≡ short len ++ field = append_assoc (short len) r.field (b ∷ []) in
+    elim (either (ltb (length field) len) _ _ s is) [
+      | inl few ↦ is-then _ s _ few.1
+          (follows-at (spot.Bytes device len) (record r { field = field }) _ here_is are (ltb-true (length field) len few.0, at.1, at.2, at.3)
+          (more-in-line (lines_bytes r.records r.end) (0x0A ∷ device ∷ 2 ∷ (short len ++ r.field)) b
+          ∙ ap (λ (xs : List ℕ). codes "TVJ1" ++ (lines_bytes r.records r.end ++ 0x0A ∷ device ∷ 2 ∷ xs)) more))
+      | inr all ↦
+          let most = ltb-false (length field) len all.0 in
+          let whole : length field ≡ len = omega (arith, length-append r.field (b ∷ []), at.0) in
+          is-then _ s _ all.1
+          (follows-one r (spot.Bytes device len) (entry.Did device (heard.Bytes field)) b are (at.3, omega (arith, at.1)) at.2
+          (ap (λ (xs : List ℕ). 0x0A ∷ device ∷ 2 ∷ xs) (more ∙ ap (λ (n : ℕ). short n ++ field) (sym whole))))
     ]
 
 -- an end line was read whole
@@ -367,6 +564,11 @@ step-at spot.Magic r s b bytes here_is are at bytes_are here is = rw bytes_are (
 step-at spot.Line r s b bytes here_is are at bytes_are here is = rw bytes_are (after-line r s b are is)
 step-at spot.Hart r s b bytes here_is are at bytes_are here is = rw bytes_are (after-hart r s b are at is)
 step-at (spot.Count hart) r s b bytes here_is are at bytes_are here is = rw bytes_are (after-count hart r s b are at here here_is is)
+step-at (spot.Device step) r s b bytes here_is are at bytes_are here is = rw bytes_are (after-device step r s b are at is)
+step-at spot.Outcome r s b bytes here_is are at bytes_are here is = rw bytes_are (after-outcome r s b are at is)
+step-at (spot.Code device) r s b bytes here_is are at bytes_are here is = rw bytes_are (after-code device r s b are at is)
+step-at (spot.Length device c) r s b bytes here_is are at bytes_are here is = rw bytes_are (after-length device c r s b are at here here_is is)
+step-at (spot.Bytes device len) r s b bytes here_is are at bytes_are here is = rw bytes_are (after-bytes device len r s b are at here_is is)
 step-at spot.Tick r s b bytes here_is are at bytes_are here is = rw bytes_are (after-tick r s b are at here here_is is)
 step-at spot.Cause r s b bytes here_is are at bytes_are here is = rw bytes_are (after-cause r s b are at is)
 step-at spot.Closing r s b bytes here_is are at bytes_are here is = rw bytes_are (after-closing r s b are at here_is is)

@@ -6,6 +6,8 @@ pub mod Fronts
 pub mod Goes
 pub mod Kept
 pub mod Records
+pub mod Room
+pub mod Stored
 pub mod Spellings
 pub mod Puts
 pub mod Written

@@ -7,9 +7,7 @@ use Rattle.tv_base.specs.declared.Why.{Why}
 use Rattle.tv_journal.specs.declared.Entry.{Entry}
 use Rattle.tv_journal.specs.declared.Entry.TheVariants as entry
 use Rattle.tv_journal.specs.declared.record.EndLine.{EndLine}
-use Rattle.tv_journal.specs.declared.record.Record.{Record}
-use Rattle.tv_journal.specs.declared.record.Record.TheVariants as record_of
-use Rattle.tv_journal.specs.Entries.{entries_in, entries_of}
+use Rattle.tv_journal.specs.Entries.{Record, Run, One, entries_in, entries_of}
 use Rattle.tv_journal.specs.Grammar.{Lines, IsRecord, EndFits, SpellsJournal, file_bytes, outer_of}
 use Rattle.tv_journal.specs.Reading.{Read, first_read, read_all}
 use Rattle.tv_journal.proofs.Files.{read-file, behind}
@@ -17,8 +15,8 @@ use Rattle.tv_journal.proofs.Records.{kept-records}
 
 -- each record has an entry
 pub some-entry : (r : Record) → IsRecord r → 0 < length (entries_in r)
-some-entry (record_of.Tick n) is = omega arith
-some-entry (record_of.Hart hart count) is = omega (arith, length-replicate count (entry.Hart hart))
+some-entry (One e) is = omega arith
+some-entry (Run hart count) is = omega (arith, length-replicate count (entry.Hart hart))
 
 -- so the number of entries before a place tells the place
 pub same-place : (rs : List Record) (m n : ℕ) → AllByRecursion IsRecord rs → m ≤ length rs → n ≤ length rs

@@ -9,8 +9,7 @@ use Rattle.tv_out.specs.Calls.{after_call}
 use Rattle.tv_out.specs.Told.{ToldSink, FollowsPut, FellShort, appended}
 use Rattle.tv_out.proofs.Appended.{appended-twice, appended-nil}
 use Rattle.tv_out.proofs.Pieces.{steady_put, steady-same, steady-on}
-use Rattle.tv_journal.specs.declared.record.Record.{Record}
-use Rattle.tv_journal.specs.Grammar.{record_bytes}
+use Rattle.tv_journal.specs.declared.record.Stored.{Stored}
 use Rattle.tv_journal.specs.Writing.{IsWriting, IsAllPut, IsPartPut, WritesOn, EndsIn, PutGives}
 use Rattle.tv_journal.proofs.Puts.{goes-none, goes-next, room-next, short-next, short-more}
 
@@ -77,24 +76,24 @@ writing-all written start now some so_far =
     (record { told = so_far.told; steady = so_far.steady; was_room = so_far.was_room (subst (λ (xs : List ℕ). 0 < length xs) (sym same) some) })
 
 -- a record, with those before it and behind it
-pub bytes-at : (rs : List Record) (i : ℕ) (r : Record) → i < length rs → r ≡ get_or rs i r
-    → flat_map record_bytes rs ≡ (flat_map record_bytes (take i rs) ++ record_bytes r) ++ flat_map record_bytes (drop (suc i) rs)
-bytes-at rs i r within is =
-    ap (flat_map record_bytes) (sym (take-append-drop i rs))
-    ∙ flat_map-append record_bytes (take i rs) (drop i rs)
-    ∙ ap (λ (more : List Record). flat_map record_bytes (take i rs) ++ flat_map record_bytes more) (drop-cons rs i r within ∙ ap (λ (x : Record). x ∷ drop (suc i) rs) (sym is))
-    ∙ sym (append_assoc (flat_map record_bytes (take i rs)) (record_bytes r) (flat_map record_bytes (drop (suc i) rs)))
+pub bytes-at : (spelled : Stored → List ℕ) (rs : List Stored) (i : ℕ) (r : Stored) → i < length rs → r ≡ get_or rs i r
+    → flat_map spelled rs ≡ (flat_map spelled (take i rs) ++ spelled r) ++ flat_map spelled (drop (suc i) rs)
+bytes-at spelled rs i r within is =
+    ap (flat_map spelled) (sym (take-append-drop i rs))
+    ∙ flat_map-append spelled (take i rs) (drop i rs)
+    ∙ ap (λ (more : List Stored). flat_map spelled (take i rs) ++ flat_map spelled more) (drop-cons rs i r within ∙ ap (λ (x : Stored). x ∷ drop (suc i) rs) (sym is))
+    ∙ sym (append_assoc (flat_map spelled (take i rs)) (spelled r) (flat_map spelled (drop (suc i) rs)))
 
 -- the sink failed at a record
-pub cut-in-records : (rs : List Record) (i : ℕ) (r : Record) (written : List ℕ) (start new : ToldSink) → i < length rs → r ≡ get_or rs i r
-    → IsPartPut ((written ++ flat_map record_bytes (take i rs)) ++ record_bytes r) start new → IsPartPut (written ++ flat_map record_bytes rs) start new
-cut-in-records rs i r written start new within is cut =
-    let before = flat_map record_bytes (take i rs) in
-    let behind = flat_map record_bytes (drop (suc i) rs) in
+pub cut-in-records : (spelled : Stored → List ℕ) (rs : List Stored) (i : ℕ) (r : Stored) (written : List ℕ) (start new : ToldSink) → i < length rs → r ≡ get_or rs i r
+    → IsPartPut ((written ++ flat_map spelled (take i rs)) ++ spelled r) start new → IsPartPut (written ++ flat_map spelled rs) start new
+cut-in-records spelled rs i r written start new within is cut =
+    let before = flat_map spelled (take i rs) in
+    let behind = flat_map spelled (drop (suc i) rs) in
     subst (λ (xs : List ℕ). IsPartPut xs start new)
-    (append_assoc (written ++ before) (record_bytes r) behind ∙ append_assoc written before (record_bytes r ++ behind)
-    ∙ ap (λ (xs : List ℕ). written ++ xs) (sym (append_assoc before (record_bytes r) behind) ∙ sym (bytes-at rs i r within is)))
-    (cut-more ((written ++ before) ++ record_bytes r) behind start new cut)
+    (append_assoc (written ++ before) (spelled r) behind ∙ append_assoc written before (spelled r ++ behind)
+    ∙ ap (λ (xs : List ℕ). written ++ xs) (sym (append_assoc before (spelled r) behind) ∙ sym (bytes-at spelled rs i r within is)))
+    (cut-more ((written ++ before) ++ spelled r) behind start new cut)
 
 -- bytes and then bytes
 pub writes-after : (a b : List ℕ) (old mid new : ToldSink) (p q r : List ℕ) → WritesOn a old p mid q → WritesOn b mid q new r → WritesOn (a ++ b) old p new r

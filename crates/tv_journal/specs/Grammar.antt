@@ -1,28 +1,54 @@
 -- The journal file. Numbers are little-endian.
 use Rattle.std.specs.Prelude.{◌≡◌, ◌≢◌, ℕ, ◌-◌, ◌^◌, ◌<◌, ◌≤◌, List, [], ◌∷◌, ◌++◌, Option, Some, None, codes, flat_map, length, take, drop, slice_get}
 use Rattle.std.specs.List.{AllByRecursion}
-use Rattle.std.specs.Int.{w32, to_le_bytes}
+use Rattle.std.specs.Int.{w16, w32, to_le_bytes}
+use Rattle.tv_base.specs.declared.limits.TheConstants.{PIECE_BYTES}
 use Rattle.tv_base.specs.declared.Why.{Why}
 use Rattle.tv_base.specs.declared.Why.TheVariants as why
+use Rattle.tv_items.specs.declared.action.Heard.{Heard}
+use Rattle.tv_items.specs.declared.action.Heard.TheVariants as heard
 use Rattle.tv_journal.specs.declared.Entry.{Entry}
+use Rattle.tv_journal.specs.declared.Entry.TheVariants as entry
 use Rattle.tv_journal.specs.declared.record.EndLine.{EndLine}
-use Rattle.tv_journal.specs.declared.record.Record.{Record}
-use Rattle.tv_journal.specs.declared.record.Record.TheVariants as record_of
-use Rattle.tv_journal.specs.Entries.{entries_of}
+use Rattle.tv_journal.specs.Entries.{Record, Run, One, entries_of}
 
 -- what a file says: its records, and its end line, which stands after some of them
 pub record Lines : Type 0 where
   pub records : List Record
   pub end : Option EndLine
 
--- a number of four bytes
+-- a number of four bytes, and one of two
 abbrev pub number : ℕ → List ℕ
 number n = to_le_bytes w32 n
 
--- a record: its kind, and its fields
+abbrev pub short : ℕ → List ℕ
+short n = to_le_bytes w16 n
+
+-- what a device heard from outside: a code, a length of two bytes, and at code 2 so many bytes. Outside, nothing is refused
+abbrev pub heard_spelled : Heard → List ℕ
+heard_spelled heard.Done = 0 ∷ short 0
+heard_spelled heard.Refused = []
+heard_spelled heard.Failed = 1 ∷ short 0
+heard_spelled (heard.Bytes bytes) = 2 ∷ (short (length bytes) ++ bytes)
+heard_spelled (heard.Taken count) = 3 ∷ short count
+
+-- a record: its kind, and its fields. An event of a hart stands in a run
+abbrev pub entry_spelled : Entry → List ℕ
+entry_spelled (entry.Hart hart) = []
+entry_spelled (entry.Take device) = 0x02 ∷ device ∷ []
+entry_spelled (entry.Send device) = 0x03 ∷ device ∷ []
+entry_spelled (entry.ServeMem device) = 0x04 ∷ device ∷ []
+entry_spelled (entry.ServeIrq device) = 0x05 ∷ device ∷ []
+entry_spelled (entry.Got device) = 0x06 ∷ device ∷ []
+entry_spelled (entry.Reply device) = 0x07 ∷ device ∷ []
+entry_spelled (entry.Deliver device) = 0x08 ∷ device ∷ []
+entry_spelled (entry.Intend device) = 0x09 ∷ device ∷ []
+entry_spelled (entry.Did device h) = 0x0A ∷ device ∷ heard_spelled h
+entry_spelled (entry.Tick n) = 0x0B ∷ number n
+
 abbrev pub record_bytes : Record → List ℕ
-record_bytes (record_of.Hart hart count) = 0x01 ∷ hart ∷ number count
-record_bytes (record_of.Tick n) = 0x0B ∷ number n
+record_bytes (Run hart count) = 0x01 ∷ hart ∷ number count
+record_bytes (One e) = entry_spelled e
 
 -- the causes of an end that no event made
 abbrev pub cause_byte : Why → Option ℕ
@@ -54,17 +80,37 @@ abbrev pub file_bytes : Lines → List ℕ
 file_bytes lines = codes "TVJ1" ++ lines_bytes lines.records lines.end ++ closing_bytes (length lines.records)
 
 -- a record's fields are in range
-abbrev pub IsRecord : Record → Type 0
-IsRecord (record_of.Hart hart count) = (hart < 8) × (0 < count) × (count < 2 ^ 32)
-IsRecord (record_of.Tick n) = (0 < n) × (n < 2 ^ 32)
+abbrev pub IsOutcome : Heard → Type 0
+IsOutcome heard.Refused = ⊥
+IsOutcome (heard.Bytes bytes) = length bytes ≤ PIECE_BYTES
+IsOutcome (heard.Taken count) = count ≤ PIECE_BYTES
+IsOutcome _ = Unit {0}
 
-abbrev pub IsTick : Record → Type 0
-IsTick (record_of.Hart hart count) = ⊥
-IsTick (record_of.Tick n) = Unit {0}
+abbrev pub IsSingle : Entry → Type 0
+IsSingle (entry.Hart hart) = ⊥
+IsSingle (entry.Take device) = device < 8
+IsSingle (entry.Send device) = device < 8
+IsSingle (entry.ServeMem device) = device < 8
+IsSingle (entry.ServeIrq device) = device < 8
+IsSingle (entry.Got device) = device < 8
+IsSingle (entry.Reply device) = device < 8
+IsSingle (entry.Deliver device) = device < 8
+IsSingle (entry.Intend device) = device < 8
+IsSingle (entry.Did device h) = (device < 8) × IsOutcome h
+IsSingle (entry.Tick n) = (0 < n) × (n < 2 ^ 32)
+
+abbrev pub IsRecord : Record → Type 0
+IsRecord (Run hart count) = (hart < 8) × (0 < count) × (count < 2 ^ 32)
+IsRecord (One e) = IsSingle e
+
+-- no event of a hart
+abbrev pub IsNoRun : Record → Type 0
+IsNoRun (Run hart count) = ⊥
+IsNoRun (One e) = Unit {0}
 
 -- the record before this one is not a run of the same hart
 abbrev pub Differs : Option Record → Record → Type 0
-Differs (Some (record_of.Hart before _)) (record_of.Hart hart _) = hart ≢ before
+Differs (Some (Run before _)) (Run hart _) = hart ≢ before
 Differs _ _ = Unit {0}
 
 -- each record differs so from the one before it; the first is looked at with the record that stands before the list
@@ -81,7 +127,7 @@ pub record IsEnd (records : List Record) (end : EndLine) : Type 0 where
   pub place : end.records ≤ length records
   pub cause : cause_byte end.why ≢ None
   pub entries : end.entries ≡ length (entries_of (take end.records records))
-  pub after : AllByRecursion IsTick (drop end.records records)
+  pub after : AllByRecursion IsNoRun (drop end.records records)
 
 abbrev pub EndFits : List Record → Option EndLine → Type 0
 EndFits records None = Unit {0}

@@ -1,5 +1,6 @@
 pub mod Entries
 pub mod Grammar
+pub mod Stores
 pub mod Journals
 pub mod JournalFields
 pub mod Reading

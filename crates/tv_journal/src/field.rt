@@ -1,25 +1,24 @@
-//! The bytes of a field of four bytes, as they come.
+//! The bytes of a field, as they come.
 
 ghost use Rattle.std.specs.Prelude.{◌≡◌, ◌<◌, ◌++◌, ◌∷◌, [], length};
-ghost use Rattle.std.specs.Int.{w32, from_le_bytes};
+ghost use Rattle.std.specs.Int.{w16, w32, from_le_bytes};
 
+use arrayvec::ArrayVec;
 use std::marker::Model;
+use tv_base::PIECE_BYTES;
 
-/// Up to four bytes.
+/// Up to [`PIECE_BYTES`] bytes.
 #[derive(Drop)]
 pub struct Field {
-    bytes: [u8; 4],
-    len: usize,
+    bytes: ArrayVec<u8, PIECE_BYTES>,
 }
 
 impl Model for Field {
-    ghost use Rattle.std.specs.Prelude.{ℕ, List, ◌≤◌, take};
+    ghost use Rattle.std.specs.Prelude.{ℕ, List};
 
     ghost Value = { List ℕ };
 
-    ghost view = { λ field. take field.len field.bytes };
-
-    ghost invariant = { λ field. field.len ≤ 4 };
+    ghost view = { λ field. field.bytes.items };
 }
 
 impl Field {
@@ -28,8 +27,7 @@ impl Field {
         ensures { result ≡ [] }
     {
         Field {
-            bytes: [0; 4],
-            len: 0,
+            bytes: ArrayVec::new(),
         }
     }
 
@@ -37,16 +35,30 @@ impl Field {
     pub fn len(&self) -> usize
         ensures { result ≡ length self.now }
     {
-        self.len
+        self.bytes.len()
     }
 
     /// Adds a byte.
     pub fn push(&mut self, byte: u8)
-        requires { length self.old < 4 }
+        requires { length self.old < 4096 }
         ensures { self.new ≡ self.old ++ byte ∷ [] }
     {
-        self.bytes[self.len] = byte;
-        self.len += 1;
+        self.bytes.push(byte);
+    }
+
+    /// Takes all bytes away.
+    pub fn clear(&mut self)
+        ensures { self.new ≡ [] }
+    {
+        self.bytes.clear();
+    }
+
+    /// The little-endian number of two bytes.
+    pub fn short(&self) -> u16
+        requires { length self.now ≡ 2 }
+        ensures { result ≡ from_le_bytes w16 self.now }
+    {
+        u16::from_le_bytes([self.bytes[0], self.bytes[1]])
     }
 
     /// The little-endian number of four bytes.
@@ -54,6 +66,13 @@ impl Field {
         requires { length self.now ≡ 4 }
         ensures { result ≡ from_le_bytes w32 self.now }
     {
-        u32::from_le_bytes(self.bytes)
+        u32::from_le_bytes([self.bytes[0], self.bytes[1], self.bytes[2], self.bytes[3]])
+    }
+
+    /// The bytes.
+    pub fn as_slice(&self) -> &[u8]
+        ensures { result.now ≡ self.now }
+    {
+        &self.bytes
     }
 }

@@ -1,15 +1,31 @@
 //! The journal of a run: its events in order, kept as records, and the file that they are saved in.
 #![tactic(auto)]
 
-ghost use Rattle.std.specs.Prelude.{◌≡◌, ◌≢◌, ℕ, ◌+◌, ◌<◌, ◌-◌, ◌^◌, List, [], Option, None, Err, IfOk, length, replicate};
+ghost use Rattle.std.specs.Prelude.{◌≡◌, ◌≢◌, ℕ, ◌+◌, ◌<◌, ◌-◌, ◌≤◌, ◌^◌, List, [], Option, None, Err, IfOk, length, replicate};
 ghost use Rattle.std.specs.Result.{is_err};
 ghost use Rattle.tv_base.specs.declared.Why.{Why};
 ghost use Rattle.tv_out.specs.Faults.{HasCause};
 ghost use Rattle.tv_journal.specs.declared.Entry.{Entry};
-ghost use Rattle.tv_journal.specs.Entries.{record_count, records_of};
+ghost use Rattle.tv_journal.specs.Entries.{payload_bytes, record_count, records_of};
 ghost use Rattle.tv_journal.specs.Grammar.{cause_byte, SpellsJournal, IsLongestFront};
 ghost use Rattle.tv_journal.specs.Writing.{IsSaved};
-ghost use Rattle.tv_journal.specs.Journals.{has_room, pushed, pushed_all, next_record, IsEntry, IsOuterEnd, MayFollow};
+ghost use Rattle.tv_journal.specs.Journals.{
+  given_back,
+  has_room,
+  has_free,
+  next_record,
+  next_run,
+  next_tick,
+  pushed,
+  pushed_all,
+  pushed_reserved,
+  reserved,
+  reserved_for,
+  IsEntry,
+  IsOuterEnd,
+  IsReserved,
+  MayFollow,
+};
 
 mod field;
 mod reader;
@@ -17,18 +33,37 @@ mod record;
 mod writer;
 
 use reader::{Reader, StepFault};
-use record::{EndLine, Record, add, add_events, needs_no_record, record_at};
+use record::{EndLine, Store, payload_of};
 use std::alloc::Global;
 use std::marker::Model;
-use tv_base::{HartNo, Memory, Why};
+use tv_base::{DevNo, HartNo, Memory, Why};
+use tv_items::Heard;
 use tv_out::{Short, Sink};
 use writer::write_lines;
 
 /// One event of a run.
-#[derive(Clone, Copy)]
+#[derive(Drop)]
 pub enum Entry {
     /// An event of this hart.
     Hart(HartNo),
+    /// This device acts on its next item.
+    Take(DevNo),
+    /// This device sends its next action on memory or interrupts as a request.
+    Send(DevNo),
+    /// The memory service serves the request of this device.
+    ServeMem(DevNo),
+    /// The interrupt service serves the request of this device.
+    ServeIrq(DevNo),
+    /// This device gets the reply to its request.
+    Got(DevNo),
+    /// This device replies to the first of what is due.
+    Reply(DevNo),
+    /// The oldest reply of this device is delivered.
+    Deliver(DevNo),
+    /// This device begins its next action outside the machine.
+    Intend(DevNo),
+    /// This device heard this of its action outside the machine, where nothing is refused.
+    Did(DevNo, Heard),
     /// Time goes on by this much, at least 1.
     Tick(u32),
 }
@@ -36,13 +71,13 @@ pub enum Entry {
 /// The events of a run, in order. Its room is taken when it is made.
 #[derive(Drop)]
 pub struct Journal {
-    records: Vec<Record>,
-    // No record has bytes beside it yet; the room for them is taken all the same.
-    payload: Vec<u8>,
+    store: Store,
     end: Option<EndLine>,
     events: u64,
     record_room: u32,
-    payload_room: u32,
+    payload_room: usize,
+    reserved_records: u32,
+    reserved_bytes: usize,
 }
 
 impl Model for Journal {
@@ -53,8 +88,16 @@ impl Model for Journal {
     ghost use Rattle.tv_journal.specs.Entries.{entries_of};
     ghost use Rattle.tv_journal.specs.Grammar.{outer_of};
     ghost use Rattle.tv_journal.specs.JournalFields.{IsJournal};
+    ghost use Rattle.tv_journal.specs.Stores.{held};
 
-    ghost view = { λ j. record { entries = entries_of j.records.items; outer = outer_of j.end; record_room = j.record_room; payload_room = j.payload_room } };
+    ghost view = { λ j. record {
+      entries = entries_of (held j.store);
+      outer = outer_of j.end;
+      record_room = j.record_room;
+      payload_room = j.payload_room;
+      reserved_records = j.reserved_records;
+      reserved_bytes = j.reserved_bytes;
+    } };
 
     ghost invariant = { IsJournal };
 }
@@ -83,26 +126,30 @@ impl Model for Cursor {
 }
 
 impl Journal {
-    /// An empty journal with room for so many records, and for so many bytes that records carry. Memory for both is taken
-    /// here.
+    /// An empty journal with room for so many records, and for so many bytes of payload, which entries
+    /// [`Did`](Entry::Did) have. Memory for both is taken here, and no later call takes any.
     ///
     /// # Errors
     /// Want of memory.
     pub fn new(alloc: Global, entries: u32, bytes: u32) -> Result<Journal, Memory>
-        ensures { IfOk result (λ journal. journal ≡ record { entries = []; outer = None; record_room = entries; payload_room = bytes }) }
+        ensures { IfOk result (λ journal. journal ≡ record { entries = []; outer = None; record_room = entries; payload_room = bytes; reserved_records = 0; reserved_bytes = 0 }) }
     {
         Ok(Journal {
-            records: Vec::with_capacity(alloc, entries as usize).map_err(|_| Memory)?,
-            payload: Vec::with_capacity(alloc, bytes as usize).map_err(|_| Memory)?,
+            store: Store {
+                records: Vec::with_capacity(alloc, entries as usize).map_err(|_| Memory)?,
+                payload: Vec::with_capacity(alloc, bytes as usize).map_err(|_| Memory)?,
+            },
             end: None,
             events: 0,
             record_room: entries,
-            payload_room: bytes,
+            payload_room: bytes as usize,
+            reserved_records: 0,
+            reserved_bytes: 0,
         })
     }
 
-    /// Adds an entry; `false` exactly where there is no room for the records that the journal then has, and nothing is
-    /// changed then. After an end that no event made, no event of a hart is added.
+    /// Adds an entry; `false` exactly where there is no free room for it, and nothing is changed then. After an end that no
+    /// event made, no event of a hart is added.
     #[inline(always)]
     pub fn push(&mut self, entry: &Entry) -> bool
         requires few { length self.old.entries < 2 ^ 32 - 1 }
@@ -110,16 +157,16 @@ impl Journal {
         requires follows { MayFollow self.old.outer entry.now }
         ensures { (result, self.new) ≡ pushed self.old entry.now }
     {
-        let room = self.record_room as usize;
-        if !add(&mut self.records, room, *entry) {
+        if !self.has_room(entry) {
             return false;
         }
+        self.store.add(entry);
         self.events += 1;
         true
     }
 
-    /// Adds so many events of a hart, one after the other; `false` exactly where there is no room for the records that the
-    /// journal then has, and nothing is changed then.
+    /// Adds so many events of a hart, one after the other; `false` exactly where there is no free room for them, and nothing
+    /// is changed then.
     #[inline(always)]
     pub fn push_events(&mut self, hart: HartNo, count: u32) -> bool
         requires some { 0 < count }
@@ -127,22 +174,84 @@ impl Journal {
         requires open { self.old.outer ≡ None }
         ensures { (result, self.new) ≡ pushed_all self.old (replicate count (Entry.Hart hart)) }
     {
-        let room = self.record_room as usize;
-        if !add_events(&mut self.records, room, hart, count) {
+        if !self.has_room(&Entry::Hart(hart)) {
             return false;
         }
+        self.store.add_events(hart, count);
         self.events += u64::from(count);
         true
     }
 
-    /// Whether there is room for the records that the journal has with this entry added.
+    /// Adds an entry for which room was reserved, and takes it from what is reserved: a record, or none where an event joins
+    /// a run, and the bytes that the entry has.
+    pub fn push_reserved(&mut self, entry: &Entry)
+        requires few { length self.old.entries < 2 ^ 32 - 1 }
+        requires entry { IsEntry entry.now }
+        requires follows { MayFollow self.old.outer entry.now }
+        requires taken { IsReserved self.old entry.now }
+        ensures { self.new ≡ pushed_reserved self.old entry.now }
+    {
+        self.reserved_records -= self.store.records_for(entry);
+        self.reserved_bytes -= payload_of(entry);
+        self.store.add(entry);
+        self.events += 1;
+    }
+
+    /// Whether there is free room for an entry.
     #[inline(always)]
     pub fn has_room(&self, entry: &Entry) -> bool
-        requires few { length self.now.entries < 2 ^ 32 - 1 }
-        requires entry { IsEntry entry.now }
         ensures { result ≡ has_room self.now entry.now }
     {
-        needs_no_record(&self.records, *entry) || self.records.len() < self.record_room as usize
+        self.has_free(self.store.records_for(entry) as usize, payload_of(entry))
+    }
+
+    /// Whether so many records and so many bytes of payload are free.
+    #[inline(always)]
+    fn has_free(&self, records: usize, bytes: usize) -> bool
+        requires { records < 2 ^ 33 }
+        ensures { result ≡ has_free self.now records bytes }
+    {
+        let limit = self.record_room as usize - self.reserved_records as usize;
+        let taken = self.store.payload.len() + self.reserved_bytes;
+        self.store.records.len() + records <= limit && bytes <= self.payload_room - taken
+    }
+
+    /// Reserves room for entries to come: so many records, and so many bytes of payload. `false` exactly where it is not
+    /// free, and nothing is changed then.
+    pub fn reserve(&mut self, records: u32, bytes: u32) -> bool
+        ensures { (result, self.new) ≡ reserved self.old records bytes }
+    {
+        if !self.has_free(records as usize, bytes as usize) {
+            return false;
+        }
+        self.reserved_records += records;
+        self.reserved_bytes += bytes as usize;
+        true
+    }
+
+    /// Reserves room for an entry, and so many records and bytes of payload more for what follows it. `false` exactly where
+    /// it is not free, and nothing is changed then.
+    pub fn reserve_for(&mut self, entry: &Entry, records: u32, bytes: u32) -> bool
+        ensures { (result, self.new) ≡ reserved_for self.old entry.now records bytes }
+    {
+        let records = self.store.records_for(entry) as usize + records as usize;
+        let bytes = payload_of(entry) + bytes as usize;
+        if !self.has_free(records, bytes) {
+            return false;
+        }
+        self.reserved_records += records as u32;
+        self.reserved_bytes += bytes;
+        true
+    }
+
+    /// Makes so many reserved records and bytes free again.
+    pub fn give_back(&mut self, records: u32, bytes: u32)
+        requires records { records ≤ self.old.reserved_records }
+        requires bytes { bytes ≤ self.old.reserved_bytes }
+        ensures { self.new ≡ given_back self.old records bytes }
+    {
+        self.reserved_records -= records;
+        self.reserved_bytes -= bytes as usize;
     }
 
     /// Sets the end that no event made, after the entries that are there. It needs no room.
@@ -152,7 +261,7 @@ impl Journal {
         ensures { self.new ≡ record self.old { outer = Some (length self.old.entries, why) } }
     {
         self.end = Some(EndLine {
-            records: self.records.len(),
+            records: self.store.records.len(),
             entries: self.events,
             why,
         });
@@ -185,10 +294,42 @@ impl Journal {
         ensures { (result, cursor.new) ≡ next_record (records_of self.now.entries) cursor.old }
     {
         let at = cursor.next;
-        match record_at(&self.records, at) {
+        match self.store.entry_at(at) {
             Some(found) => {
                 cursor.next = at + 1;
-                Some(found.entry_and_count())
+                Some(found)
+            }
+            None => None,
+        }
+    }
+
+    /// The same for a run of events alone: its hart, and how many events they are. `None` and no move exactly where the
+    /// record behind the cursor is another one or there is none.
+    #[inline(always)]
+    pub fn next_events(&self, cursor: &mut Cursor) -> Option<(HartNo, u32)>
+        ensures { (result, cursor.new) ≡ next_run (records_of self.now.entries) cursor.old }
+    {
+        let at = cursor.next;
+        match self.store.run_at(at) {
+            Some(run) => {
+                cursor.next = at + 1;
+                Some(run)
+            }
+            None => None,
+        }
+    }
+
+    /// The same for a tick alone: what it adds to the time. `None` and no move exactly where the record behind the cursor is
+    /// another one or there is none.
+    #[inline(always)]
+    pub fn next_tick(&self, cursor: &mut Cursor) -> Option<u32>
+        ensures { (result, cursor.new) ≡ next_tick (records_of self.now.entries) cursor.old }
+    {
+        let at = cursor.next;
+        match self.store.tick_at(at) {
+            Some(n) => {
+                cursor.next = at + 1;
+                Some(n)
             }
             None => None,
         }
@@ -198,7 +339,7 @@ impl Journal {
     pub fn records(&self) -> u32
         ensures { result ≡ record_count self.now.entries }
     {
-        self.records.len() as u32
+        self.store.records.len() as u32
     }
 
     /// The number of entries.
@@ -216,7 +357,7 @@ impl Journal {
         ensures saved { IsSaved result self.now.entries self.now.outer (K.told sink.old) (K.told sink.new) }
         ensures cause { HasCause (K.told sink.old).faults (K.told sink.new).faults (is_err result) }
     {
-        write_lines(sink, &self.records, self.end)
+        write_lines(sink, &self.store, self.end)
     }
 
     /// The journal that a file holds. It has the room that it takes, and no more.
@@ -226,7 +367,8 @@ impl Journal {
     pub fn read_file(alloc: Global, bytes: &[u8]) -> Result<Journal, JournalFault>
         ensures spelled { IfOk result (λ journal. SpellsJournal bytes.now journal.entries journal.outer) }
         ensures room { IfOk result (λ journal. journal.record_room ≡ record_count journal.entries) }
-        ensures payload { IfOk result (λ journal. journal.payload_room ≡ 0) }
+        ensures payload { IfOk result (λ journal. journal.payload_room ≡ payload_bytes journal.entries) }
+        ensures reserved { IfOk result (λ journal. (journal.reserved_records ≡ 0) × (journal.reserved_bytes ≡ 0)) }
         ensures front { (n : ℕ) → result ≡ Err (JournalFault.At n) → IsLongestFront bytes.now n }
         ensures no_file { (n : ℕ) → result ≡ Err (JournalFault.At n) → (entries : List Entry) (outer : Option (ℕ × Why))
             → ¬ SpellsJournal bytes.now entries outer }
@@ -243,14 +385,16 @@ impl Journal {
         if !done {
             return Err(JournalFault::At(bytes.len() as u64));
         }
-        let room = reader.records.len() as u32;
+        let record_room = reader.store.records.len() as u32;
+        let payload_room = reader.store.payload.len();
         Ok(Journal {
-            records: reader.records,
-            payload: Vec::new(alloc),
+            store: reader.store,
             end: reader.end,
             events: reader.events,
-            record_room: room,
-            payload_room: 0,
+            record_room,
+            payload_room,
+            reserved_records: 0,
+            reserved_bytes: 0,
         })
     }
 }

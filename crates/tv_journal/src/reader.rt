@@ -1,7 +1,10 @@
 //! The reader of a journal file, byte by byte.
 
-ghost use Rattle.std.specs.Prelude.{◌≡◌, ◌<◌, ◌+◌, ◌^◌, ◌++◌, ◌∷◌, [], IsTrue, ◌↔◌, OnOk, length};
-ghost use Rattle.tv_journal.specs.Entries.{entries_in};
+ghost use Rattle.std.specs.Prelude.{◌≡◌, ◌≤◌, ◌<◌, ◌+◌, ◌^◌, ◌++◌, ◌∷◌, [], IsTrue, ◌↔◌, OnOk, Some, length};
+ghost use Rattle.tv_base.specs.declared.limits.TheConstants.{PIECE_BYTES};
+ghost use Rattle.tv_items.specs.declared.action.Heard.TheVariants as heard_as;
+ghost use Rattle.tv_journal.specs.declared.Entry.TheVariants as entry_as;
+ghost use Rattle.tv_journal.specs.Entries.{One, entries_in};
 ghost use Rattle.tv_journal.specs.Grammar.{AreLines, last_record};
 ghost use Rattle.tv_journal.specs.Reading.{
   StepGives,
@@ -11,6 +14,7 @@ ghost use Rattle.tv_journal.specs.Reading.{
   read_byte,
   fixed_read,
   line_read,
+  kind_read,
   hart_read,
   cause_read,
   count_read,
@@ -19,12 +23,20 @@ ghost use Rattle.tv_journal.specs.Reading.{
   with_record,
   first_read,
   number_so_far,
+  device_read,
+  outcome_read,
+  code_read,
+  length_read,
+  with_length,
+  bytes_read,
+  greatest_length,
 };
+ghost use Rattle.tv_journal.specs.Stores.{held, record_in, LiesIn};
 
 use crate::field::Field;
-use crate::record::{EndLine, Record};
+use crate::record::{DeviceStep, EndLine, Store, Stored};
 use std::alloc::Global;
-use tv_base::{HartNo, Why};
+use tv_base::{DevNo, HartNo, PIECE_BYTES, Why};
 
 /// Where the next byte of a journal file stands.
 #[derive(Clone, Copy)]
@@ -37,6 +49,16 @@ pub enum Spot {
     Hart,
     /// In the count of a record of this hart.
     Count(HartNo),
+    /// At the device of a step.
+    Device(DeviceStep),
+    /// At the device of what it heard from outside.
+    Outcome,
+    /// At the code of what this device heard.
+    Code(DevNo),
+    /// In the length behind a code.
+    Length(DevNo, Code),
+    /// In the bytes that this device heard, which are so many.
+    Bytes(DevNo, u16),
     /// In the number of a tick.
     Tick,
     /// At the cause of an end line.
@@ -45,6 +67,19 @@ pub enum Spot {
     Closing,
     /// Behind the file.
     Done,
+}
+
+/// What a device heard from outside, by its code.
+#[derive(Clone, Copy)]
+pub enum Code {
+    /// It was done.
+    Done,
+    /// It failed.
+    Failed,
+    /// It gave bytes.
+    Bytes,
+    /// It was a put that failed after some bytes.
+    Taken,
 }
 
 /// Why a byte was not read.
@@ -61,7 +96,7 @@ pub enum StepFault {
 pub struct Reader {
     pub spot: Spot,
     pub field: Field,
-    pub records: Vec<Record>,
+    pub store: Store,
     pub end: Option<EndLine>,
     pub events: u64,
 }
@@ -75,7 +110,7 @@ impl Reader {
         Reader {
             spot: Spot::Magic,
             field: Field::new(),
-            records: Vec::new(alloc),
+            store: Store::new(alloc),
             end: None,
             events: 0,
         }
@@ -84,7 +119,7 @@ impl Reader {
     /// One byte more. After an error the reader is of no use.
     #[tactic(auto, unfolding(crate::specs::Reading::read_byte))]
     pub fn step(&mut self, byte: u8) -> Result<(), StepFault>
-        requires lines { AreLines (record { records = self.old.records.items; end = self.old.end }) }
+        requires lines { AreLines (record { records = held self.old.store; end = self.old.end }) }
         requires at { IsAt self.old.spot (read_of self.old) }
         requires counted { IsCounted self.old }
         ensures gives { StepGives result (read_byte (read_of self.old) byte) (read_of self.new) }
@@ -96,10 +131,15 @@ impl Reader {
             Spot::Line => self.read_line(byte),
             Spot::Hart => self.read_hart(byte),
             Spot::Count(hart) => self.read_count(hart, byte),
+            Spot::Device(step) => self.read_device(step, byte),
+            Spot::Outcome => self.read_outcome(byte),
+            Spot::Code(device) => self.read_code(device, byte),
+            Spot::Length(device, code) => self.read_length(device, code, byte),
+            Spot::Bytes(device, len) => self.read_bytes(device, len, byte),
             Spot::Tick => self.read_tick(byte),
             Spot::Cause => self.read_cause(byte),
             Spot::Closing => {
-                let count = self.records.len() as u32;
+                let count = self.store.records.len() as u32;
                 self.read_fixed(byte, count.to_le_bytes(), Spot::Done)
             }
             Spot::Done => Err(StepFault::Refused),
@@ -119,14 +159,14 @@ impl Reader {
         ensures { self.new ≡ record self.old { spot = next; field = [] } }
     {
         self.spot = next;
-        self.field = Field::new();
+        self.field.clear();
     }
 
     /// A byte of four that stand fast.
     fn read_fixed(&mut self, byte: u8, expected: [u8; 4], next: Spot) -> Result<(), StepFault>
         requires short { length self.old.field < 4 }
         ensures gives { StepGives result (fixed_read (read_of self.old) expected next byte) (read_of self.new) }
-        ensures counted { self.new.events ≡ self.old.events }
+        ensures counted { IsCounted self.old → IsCounted self.new }
     {
         let at = self.field.len();
         if byte != expected[at] {
@@ -146,13 +186,31 @@ impl Reader {
         ensures counted { IsCounted self.old → IsCounted self.new }
     {
         let ended = self.end.is_some();
-        let full = self.records.len() == u32::MAX as usize;
         match byte {
             0x00 => self.move_to(Spot::Closing),
-            0x01 if !ended && !full => self.move_to(Spot::Hart),
-            0x0b if !full => self.move_to(Spot::Tick),
-            0x10 if !ended => self.move_to(Spot::Cause),
-            _ => return Err(StepFault::Refused),
+            0x10 if ended => return Err(StepFault::Refused),
+            0x10 => self.move_to(Spot::Cause),
+            _ if self.store.records.len() == u32::MAX as usize => return Err(StepFault::Refused),
+            _ => return self.read_kind(byte),
+        }
+        Ok(())
+    }
+
+    /// The kind of a record.
+    fn read_kind(&mut self, byte: u8) -> Result<(), StepFault>
+        ensures gives { StepGives result (kind_read (read_of self.old) byte) (read_of self.new) }
+        ensures counted { IsCounted self.old → IsCounted self.new }
+    {
+        let ended = self.end.is_some();
+        match byte {
+            0x01 if ended => return Err(StepFault::Refused),
+            0x01 => self.move_to(Spot::Hart),
+            0x0a => self.move_to(Spot::Outcome),
+            0x0b => self.move_to(Spot::Tick),
+            _ => match DeviceStep::at(byte) {
+                Some(step) => self.move_to(Spot::Device(step)),
+                None => return Err(StepFault::Refused),
+            },
         }
         Ok(())
     }
@@ -165,7 +223,7 @@ impl Reader {
         let Some(hart) = HartNo::new(byte) else {
             return Err(StepFault::Refused);
         };
-        if ends_with_hart(&self.records, byte) {
+        if self.ends_with_hart(byte) {
             return Err(StepFault::Refused);
         }
         self.move_to(Spot::Count(hart));
@@ -174,7 +232,7 @@ impl Reader {
 
     /// A byte of a hart's count.
     fn read_count(&mut self, hart: HartNo, byte: u8) -> Result<(), StepFault>
-        requires lines { AreLines (record { records = self.old.records.items; end = self.old.end }) }
+        requires lines { AreLines (record { records = held self.old.store; end = self.old.end }) }
         requires short { length self.old.field < 4 }
         requires counted { IsCounted self.old }
         ensures gives { StepGives result (count_read hart (read_of self.old) (self.old.field ++ byte ∷ [])) (read_of self.new) }
@@ -186,12 +244,12 @@ impl Reader {
         if count == 0 {
             return Err(StepFault::Refused);
         }
-        self.add(Record::Hart(hart, count), u64::from(count))
+        self.add(Stored::Run(hart, count), u64::from(count))
     }
 
     /// A byte of a tick's number.
     fn read_tick(&mut self, byte: u8) -> Result<(), StepFault>
-        requires lines { AreLines (record { records = self.old.records.items; end = self.old.end }) }
+        requires lines { AreLines (record { records = held self.old.store; end = self.old.end }) }
         requires short { length self.old.field < 4 }
         requires counted { IsCounted self.old }
         ensures gives { StepGives result (tick_read (read_of self.old) (self.old.field ++ byte ∷ [])) (read_of self.new) }
@@ -203,7 +261,7 @@ impl Reader {
         if n == 0 {
             return Err(StepFault::Refused);
         }
-        self.add(Record::Tick(n), 1)
+        self.add(Stored::Tick(n), 1)
     }
 
     /// A byte of a number; the number where it is whole.
@@ -216,6 +274,107 @@ impl Reader {
             return None;
         }
         Some(self.field.number())
+    }
+
+    /// The device of a step.
+    fn read_device(&mut self, step: DeviceStep, byte: u8) -> Result<(), StepFault>
+        requires lines { AreLines (record { records = held self.old.store; end = self.old.end }) }
+        requires counted { IsCounted self.old }
+        ensures gives { StepGives result (device_read step (read_of self.old) byte) (read_of self.new) }
+        ensures counted { OnOk result (IsCounted self.new) }
+    {
+        let Some(device) = DevNo::new(byte) else {
+            return Err(StepFault::Refused);
+        };
+        self.add(Stored::Step(step, device), 1)
+    }
+
+    /// The device of what it heard from outside.
+    fn read_outcome(&mut self, byte: u8) -> Result<(), StepFault>
+        ensures gives { StepGives result (outcome_read (read_of self.old) byte) (read_of self.new) }
+        ensures counted { IsCounted self.old → IsCounted self.new }
+    {
+        let Some(device) = DevNo::new(byte) else {
+            return Err(StepFault::Refused);
+        };
+        self.move_to(Spot::Code(device));
+        Ok(())
+    }
+
+    /// The code of what a device heard.
+    fn read_code(&mut self, device: DevNo, byte: u8) -> Result<(), StepFault>
+        ensures gives { StepGives result (code_read device (read_of self.old) byte) (read_of self.new) }
+        ensures counted { IsCounted self.old → IsCounted self.new }
+    {
+        let code = match byte {
+            0 => Code::Done,
+            1 => Code::Failed,
+            2 => Code::Bytes,
+            3 => Code::Taken,
+            _ => return Err(StepFault::Refused),
+        };
+        self.move_to(Spot::Length(device, code));
+        Ok(())
+    }
+
+    /// A byte of the length behind a code.
+    fn read_length(&mut self, device: DevNo, code: Code, byte: u8) -> Result<(), StepFault>
+        requires lines { AreLines (record { records = held self.old.store; end = self.old.end }) }
+        requires short { length self.old.field < 2 }
+        requires counted { IsCounted self.old }
+        ensures gives { StepGives result (length_read device code (read_of self.old) byte (self.old.field ++ byte ∷ [])) (read_of self.new) }
+        ensures counted { OnOk result (IsCounted self.new) }
+    {
+        self.field.push(byte);
+        if self.field.len() < 2 {
+            if u16::from(byte) <= code.greatest_length() {
+                return Ok(());
+            }
+            return Err(StepFault::Refused);
+        }
+        let length = self.field.short();
+        if length > code.greatest_length() {
+            return Err(StepFault::Refused);
+        }
+        self.end_length(device, code, length)
+    }
+
+    /// What a whole length leads to.
+    fn end_length(&mut self, device: DevNo, code: Code, length: u16) -> Result<(), StepFault>
+        requires lines { AreLines (record { records = held self.old.store; end = self.old.end }) }
+        requires counted { IsCounted self.old }
+        ensures gives { StepGives result (Some (with_length device code (read_of self.old) length)) (read_of self.new) }
+        ensures counted { OnOk result (IsCounted self.new) }
+    {
+        match code {
+            Code::Done => self.add(Stored::Done(device), 1),
+            Code::Failed => self.add(Stored::Failed(device), 1),
+            Code::Taken => self.add(Stored::Taken(device, length), 1),
+            Code::Bytes => {
+                if length == 0 {
+                    self.field.clear();
+                    return self.add_bytes(device);
+                }
+                self.move_to(Spot::Bytes(device, length));
+                Ok(())
+            }
+        }
+    }
+
+    /// A byte of what a device heard.
+    fn read_bytes(&mut self, device: DevNo, len: u16, byte: u8) -> Result<(), StepFault>
+        requires lines { AreLines (record { records = held self.old.store; end = self.old.end }) }
+        requires short { length self.old.field < len }
+        requires few { len ≤ PIECE_BYTES }
+        requires counted { IsCounted self.old }
+        ensures gives { StepGives result (bytes_read device len (read_of self.old) (self.old.field ++ byte ∷ [])) (read_of self.new) }
+        ensures counted { OnOk result (IsCounted self.new) }
+    {
+        self.field.push(byte);
+        if self.field.len() < len as usize {
+            return Ok(());
+        }
+        self.add_bytes(device)
     }
 
     /// The cause of an end line.
@@ -232,7 +391,7 @@ impl Reader {
             _ => return Err(StepFault::Refused),
         };
         self.end = Some(EndLine {
-            records: self.records.len(),
+            records: self.store.records.len(),
             entries: self.events,
             why,
         });
@@ -240,15 +399,17 @@ impl Reader {
         Ok(())
     }
 
-    /// Adds a record of so many events.
-    fn add(&mut self, more: Record, events: u64) -> Result<(), StepFault>
+    /// Adds a record of so many events, which carries no bytes.
+    fn add(&mut self, more: Stored, events: u64) -> Result<(), StepFault>
+        requires lines { AreLines (record { records = held self.old.store; end = self.old.end }) }
         requires counted { IsCounted self.old }
-        requires events { events ≡ length (entries_in more) }
-        requires fits { self.old.events + events < 2 ^ 64 }
-        ensures gives { StepGives result (Some (with_record (read_of self.old) more)) (read_of self.new) }
+        requires none { LiesIn 0 more }
+        requires events { events ≡ length (entries_in (record_in [] more)) }
+        requires few { events < 2 ^ 32 }
+        ensures gives { StepGives result (Some (with_record (read_of self.old) (record_in [] more))) (read_of self.new) }
         ensures counted { OnOk result (IsCounted self.new) }
     {
-        match self.records.push(more) {
+        match self.store.keep(more) {
             Ok(()) => {}
             Err(_) => return Err(StepFault::Memory),
         }
@@ -256,14 +417,43 @@ impl Reader {
         self.move_to(Spot::Line);
         Ok(())
     }
+
+    /// Adds the record of the bytes that a device heard.
+    fn add_bytes(&mut self, device: DevNo) -> Result<(), StepFault>
+        requires lines { AreLines (record { records = held self.old.store; end = self.old.end }) }
+        requires counted { IsCounted self.old }
+        requires few { length self.old.field ≤ PIECE_BYTES }
+        ensures gives { StepGives result (Some (with_record (read_of self.old) (One (entry_as.Did device (heard_as.Bytes self.old.field))))) (read_of self.new) }
+        ensures counted { OnOk result (IsCounted self.new) }
+    {
+        match self.store.keep_bytes(device, self.field.as_slice()) {
+            Ok(()) => {}
+            Err(_) => return Err(StepFault::Memory),
+        }
+        self.events += 1;
+        self.move_to(Spot::Line);
+        Ok(())
+    }
+
+    /// Whether the last record is a run of this hart.
+    fn ends_with_hart(&self, hart: u8) -> bool
+        ensures { result ≡ is_of_hart (last_record (held self.now.store)) hart }
+    {
+        match self.store.last_run() {
+            Some((last, _)) => hart == last.get(),
+            None => false,
+        }
+    }
 }
 
-/// Whether the last record is one of this hart.
-fn ends_with_hart(records: &[Record], hart: u8) -> bool
-    ensures { result ≡ is_of_hart (last_record records.now) hart }
-{
-    match records.last() {
-        Some(Record::Hart(last, _)) => hart == last.get(),
-        Some(Record::Tick(_)) | None => false,
+impl Code {
+    /// The greatest length that may come behind it.
+    fn greatest_length(self) -> u16
+        ensures { result ≡ greatest_length self }
+    {
+        match self {
+            Code::Done | Code::Failed => 0,
+            Code::Bytes | Code::Taken => PIECE_BYTES as u16,
+        }
     }
 }

@@ -1,16 +1,18 @@
 -- A replay, record by record.
 use Rattle.std.proofs.Common.{◌≡◌, ℕ, zero, suc, ◌+◌, ◌-◌, ◌<◌, ◌≤◌, List, [], ◌∷◌, ◌++◌, Option, Some, None, replicate, map, length, get_or, take, drop, refl, ap, sym, ◌∙◌, subst, append_assoc, append-nil, length-append, arith}
 use Rattle.std.specs.List.{slice_get}
+use Rattle.std.specs.Option.{option_map}
+use Rattle.std.specs.Prelude.{Err}
 use Rattle.std.proofs.lemmas.Grind.{flat_map-append}
 use Rattle.std.proofs.lemmas.List.{drop_more, take_more, length-replicate, replicate-append-replicate}
 use Rattle.std.proofs.lemmas.Option.{slice_get_within, get_or_from_slice_get, slice_get-get_or}
 use Rattle.std.proofs.Math.Seq.{take-append_seam}
 use Rattle.tv_base.specs.declared.Why.{Why}
 use Rattle.tv_journal.specs.declared.Entry.{Entry}
-use Rattle.tv_journal.specs.declared.record.Record.{Record}
-use Rattle.tv_journal.specs.declared.record.Record.TheVariants as record_of
-use Rattle.tv_journal.specs.Entries.{entries_in, entries_of, record_count, records_of}
-use Rattle.tv_journal.specs.Journals.{IsOuterEnd, entry_and_count, next_from, next_record}
+use Rattle.tv_journal.specs.declared.Entry.TheVariants as entry
+use Rattle.tv_journal.specs.Entries.{Record, Run, One, entries_in, entries_of, record_count, records_of}
+use Rattle.tv_journal.specs.Journals.{IsOuterEnd, next_from, next_record, next_run, next_tick, run_from, tick_from}
+use Rattle.tv_journal.specs.Stores.{entry_and_count}
 use Rattle.tv_journal.proofs.Cuts.{entries-again, count-of-front}
 use Rattle.tv_machine.specs.declared.machine.Machine.{Machine}
 use Rattle.tv_spec.specs.Legal.{IsLegal, HasPlace, after, with_outer}
@@ -18,11 +20,12 @@ use Rattle.tv_spec.specs.Setup.{Setup, setup_of}
 use Rattle.tv_spec.specs.State.{State, first_state}
 use Rattle.tv_spec.specs.Step.{Move, made, ended, Can}
 use Rattle.tv_spec.proofs.Moves.{after-append, legal-append}
+use Rattle.tv_model.specs.declared.monitor.StepFault.{StepFault}
 use Rattle.tv_model.specs.Guest.{state_of, AreMade, IsFirst}
 use Rattle.tv_model.specs.GuestState.{GuestState}
 use Rattle.tv_model.specs.Monitor.{status_of}
 use Rattle.tv_model.specs.Replay.{IsFirstIllegal, IsLegalWith, IsRecordOf, entry_count, state_after}
-use Rattle.tv_model.specs.Replaying.{StopsAmong, HasLeft, IsDueTooLate, due, not_due, closer}
+use Rattle.tv_model.specs.Replaying.{StepsNext, StepsOften, StopsAmong, HasLeft, IsDueTooLate, due, not_due, closer}
 use Rattle.tv_model.proofs.Stepping.{at_same, count-append, count-replicate, count-due, with-due, with-front, IsAtBorder, border-first, border-due, border-end, border-place, border-closer, left-of-border, entries-parts}
 
 -- a front of the moves was made: those of the first n records, and the outer end if it isn't still to come
@@ -77,8 +80,8 @@ played-due machine image entries outer now next n left played more =
 
 -- a record
 pub entries-counted : (r : Record) (e : Entry) (count : ℕ) → ◌≡◌ {A = Entry × ℕ} (e, count) (entry_and_count r) → entries_in r ≡ replicate count e
-entries-counted (record_of.Hart hart n) e count is = ap (λ (p : Entry × ℕ). replicate p.1 p.0) (sym is)
-entries-counted (record_of.Tick n) e count is = ap (λ (p : Entry × ℕ). replicate p.1 p.0) (sym is)
+entries-counted (Run hart n) e count is = ap (λ (p : Entry × ℕ). replicate p.1 p.0) (sym is)
+entries-counted (One f) e count is = ap (λ (p : Entry × ℕ). replicate p.1 p.0) (sym is)
 
 map-replicate : (n : ℕ) (e : Entry) → map made (replicate n e) ≡ replicate n (made e)
 map-replicate zero e = refl
@@ -237,3 +240,34 @@ all-legal machine image entries outer left now end border played =
 pub counted : (entries : List Entry) (n : ℕ) → n < record_count entries → n < length (records_of entries)
 unfolding record_count
 counted entries n within = within
+
+-- a record that was found as a run, or as a tick
+run-as-record : (at later hart count : ℕ) (found : Option Record) → ◌≡◌ {A = Option (ℕ × ℕ) × ℕ} (Some (hart, count), later) (run_from at found)
+    → ◌≡◌ {A = Option (Entry × ℕ) × ℕ} (Some (entry.Hart hart, count), later) (next_from at found)
+run-as-record at later hart count None is = absurd (let no : ◌≡◌ {A = Option (ℕ × ℕ)} (Some (hart, count)) None = ap (λ (p : Option (ℕ × ℕ) × ℕ). p.0) is in cc)
+run-as-record at later hart count (Some (One e)) is = absurd (let no : ◌≡◌ {A = Option (ℕ × ℕ)} (Some (hart, count)) None = ap (λ (p : Option (ℕ × ℕ) × ℕ). p.0) is in cc)
+run-as-record at later hart count (Some (Run h n)) is = ap (λ (p : Option (ℕ × ℕ) × ℕ). let q : Option (Entry × ℕ) × ℕ = (option_map (λ (r : ℕ × ℕ). let x : Entry × ℕ = (entry.Hart r.0, r.1) in x) p.0, p.1) in q) is
+
+pub run-found : (rs : List Record) (at later hart count : ℕ) → ◌≡◌ {A = Option (ℕ × ℕ) × ℕ} (Some (hart, count), later) (next_run rs at)
+    → ◌≡◌ {A = Option (Entry × ℕ) × ℕ} (Some (entry.Hart hart, count), later) (next_record rs at)
+run-found rs at later hart count is = run-as-record at later hart count (slice_get rs at) is
+
+tick-as-record : (at later n : ℕ) (found : Option Record) → ◌≡◌ {A = Option ℕ × ℕ} (Some n, later) (tick_from at found)
+    → ◌≡◌ {A = Option (Entry × ℕ) × ℕ} (Some (entry.Tick n, 1), later) (next_from at found)
+tick-as-record at later n (Some (One (entry.Tick m))) is = ap (λ (p : Option ℕ × ℕ). let q : Option (Entry × ℕ) × ℕ = (option_map (λ (k : ℕ). let x : Entry × ℕ = (entry.Tick k, 1) in x) p.0, p.1) in q) is
+tick-as-record at later n found is = absurd (let no : ◌≡◌ {A = Option ℕ} (Some n) None = ap (λ (p : Option ℕ × ℕ). p.0) is in cc)
+
+pub tick-found : (rs : List Record) (at later n : ℕ) → ◌≡◌ {A = Option ℕ × ℕ} (Some n, later) (next_tick rs at)
+    → ◌≡◌ {A = Option (Entry × ℕ) × ℕ} (Some (entry.Tick n, 1), later) (next_record rs at)
+tick-found rs at later n is = tick-as-record at later n (slice_get rs at) is
+
+-- a run of which an event was not made
+pub run-stops : (rs : List Record) (at later : ℕ) (old new : GuestState) (run : ℕ × ℕ) (fault : StepFault) → ◌≡◌ {A = Option (ℕ × ℕ) × ℕ} (Some run, later) (next_run rs at)
+    → StepsOften old new (entry.Hart run.0) run.1 (Err fault) → StepsNext rs at later old new (Err fault)
+run-stops rs at later old new run fault is steps = record {
+  entry = entry.Hart run.0;
+  count = run.1;
+  next = run-found rs at later run.0 run.1 is;
+  counted = tt;
+  steps = steps;
+}

@@ -7,8 +7,7 @@ use Rattle.tv_base.specs.declared.Why.{Why}
 use Rattle.tv_journal.specs.declared.Entry.{Entry}
 use Rattle.tv_journal.specs.declared.Entry.TheVariants as entry
 use Rattle.tv_journal.specs.declared.record.EndLine.{EndLine}
-use Rattle.tv_journal.specs.declared.record.Record.{Record}
-use Rattle.tv_journal.specs.Entries.{entries_in, entries_of, records_of}
+use Rattle.tv_journal.specs.Entries.{Record, entries_in, entries_of, records_of}
 use Rattle.tv_journal.specs.Grammar.{cause_byte, outer_of, EndFits}
 use Rattle.tv_journal.specs.Journals.{IsOuterEnd}
 use Rattle.tv_machine.specs.declared.machine.Machine.{Machine}

@@ -2,7 +2,9 @@
 use Rattle.std.specs.Prelude.{◌≡◌, ◌≢◌, ℕ, zero, suc, ◌-◌, ◌<◌, ◌≤◌, List, [], ◌∷◌, Option, Some, None, Bool, true, false, Result, Ok, Err, ⊤, replicate}
 use Rattle.tv_base.specs.declared.Why.{Why}
 use Rattle.tv_journal.specs.declared.Entry.{Entry}
+use Rattle.tv_journal.specs.Entries.{Record}
 use Rattle.tv_journal.specs.Grammar.{cause_byte}
+use Rattle.tv_journal.specs.Journals.{next_record}
 use Rattle.tv_spec.specs.Legal.{IsLegal, after}
 use Rattle.tv_spec.specs.Step.{Move, made, ended, Can}
 use Rattle.tv_model.specs.declared.monitor.StepFault.{StepFault}
@@ -22,6 +24,22 @@ abbrev pub StepsOften : GuestState → GuestState → Entry → ℕ → Result �
 StepsOften old new entry count (Ok _) = AreMade old new (replicate count (made entry))
 StepsOften old new entry count (Err step_fault.Illegal) = StopsAmong old entry count
 StepsOften old new entry count (Err step_fault.Memory) = Unit {0}
+
+-- the entries of the record behind so many, by the answer to them: how many they are, or why one of them was not made
+abbrev pub without_count : Result ℕ StepFault → Result ⊤ StepFault
+without_count (Ok count) = Ok tt
+without_count (Err fault) = Err fault
+
+abbrev pub HasCount : ℕ → Result ℕ StepFault → Type 0
+HasCount count (Ok n) = n ≡ count
+HasCount count (Err fault) = Unit {0}
+
+pub record StepsNext (records : List Record) (at later : ℕ) (old new : GuestState) (result : Result ℕ StepFault) : Type 0 where
+  pub entry : Entry
+  pub count : ℕ
+  pub next : ◌≡◌ {A = Option (Entry × ℕ) × ℕ} (Some (entry, count), later) (next_record records at)
+  pub counted : HasCount count result
+  pub steps : StepsOften old new entry count (without_count result)
 
 -- an outer end that is to come has one of the causes that no entry makes; it is told with the number of entries that
 -- still come before it

@@ -63,18 +63,28 @@ impl Monitor {
     pub fn step(&mut self, entry: &Entry) -> Result<(), StepFault>
         ensures { StepsSo self.old self.new entry.now result }
     {
-        match *entry {
-            Entry::Hart(hart) => match self.burst(hart, 1) {
+        match entry {
+            Entry::Hart(hart) => match self.burst(*hart, 1) {
                 Ok(_) => Ok(()),
                 Err(fault) => Err(fault),
             },
             Entry::Tick(n) => {
-                if self.guest.tick(n) {
+                if self.guest.tick(*n) {
                     Ok(())
                 } else {
                     Err(StepFault::Illegal)
                 }
             }
+            // No device is there yet.
+            Entry::Take(_)
+            | Entry::Send(_)
+            | Entry::ServeMem(_)
+            | Entry::ServeIrq(_)
+            | Entry::Got(_)
+            | Entry::Reply(_)
+            | Entry::Deliver(_)
+            | Entry::Intend(_)
+            | Entry::Did(_, _) => Err(StepFault::Illegal),
         }
     }
 

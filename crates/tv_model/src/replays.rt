@@ -1,18 +1,19 @@
 //! The replay of a journal: whether it is a legal run of a machine with an image.
 
-ghost use Rattle.std.specs.Prelude.{◌≡◌, ◌≤◌, ℕ, List, Option, IfOk, length};
+ghost use Rattle.std.specs.Prelude.{◌≡◌, ◌≤◌, ◌<◌, ℕ, List, Option, IfOk, length};
 ghost use Rattle.tv_base.specs.declared.Why.{Why};
 ghost use Rattle.tv_journal.specs.declared.Entry.{Entry};
+ghost use Rattle.tv_journal.specs.Entries.{records_of};
 ghost use Rattle.tv_machine.specs.declared.machine.Machine.{Machine};
 ghost use Rattle.tv_machine.specs.Valid.{IsValid};
 ghost use Rattle.tv_spec.specs.Legal.{IsLegalRun};
 ghost use Rattle.tv_model.specs.Replay.{IsFirstIllegal, ReplaysSo};
-ghost use Rattle.tv_model.specs.Replaying.{StepsOften, EndsDue, HasCause, HasLeft, closer};
+ghost use Rattle.tv_model.specs.Replaying.{StepsNext, StepsOften, EndsDue, HasCause, HasLeft, closer};
 
 use crate::monitor::{Monitor, StepFault};
 use std::alloc::Global;
 use tv_base::{HartNo, Memory, Why};
-use tv_journal::{Entry, Journal};
+use tv_journal::{Cursor, Entry, Journal};
 use tv_machine::Machine;
 
 /// What a replay found.
@@ -48,15 +49,11 @@ pub fn replay(
         if !end_if_due(&mut monitor, &mut outer) {
             return Ok(Replayed::Illegal(record));
         }
-        let Some((entry, count)) = journal.next(&mut cursor) else {
-            unreachable!();
-        };
-        match step_often(&mut monitor, &entry, count) {
-            Ok(()) => {}
+        match step_next(&mut monitor, journal, &mut cursor) {
+            Ok(count) => outer = come_closer(outer, count),
             Err(StepFault::Illegal) => return Ok(Replayed::Illegal(record)),
             Err(StepFault::Memory) => return Err(Memory),
         }
-        outer = come_closer(outer, count);
     }
     if !end_if_due(&mut monitor, &mut outer) {
         return Ok(Replayed::Illegal(records));
@@ -64,14 +61,55 @@ pub fn replay(
     Ok(Replayed::Legal(monitor.status()))
 }
 
-/// Makes an entry so often.
-fn step_often(monitor: &mut Monitor, entry: &Entry, count: u32) -> Result<(), StepFault>
-    ensures { StepsOften monitor.old.guest monitor.new.guest entry.now count result }
+/// Makes the entries of the record behind the cursor; how many they are. Events and ticks, which most records are, are
+/// asked for first, since an entry of any kind takes a piece's room.
+#[inline(always)]
+fn step_next(
+    monitor: &mut Monitor,
+    journal: &Journal,
+    cursor: &mut Cursor,
+) -> Result<u32, StepFault>
+    requires { cursor.old < length (records_of journal.now.entries) }
+    ensures { StepsNext (records_of journal.now.entries) cursor.old cursor.new monitor.old.guest monitor.new.guest result }
 {
-    match *entry {
-        Entry::Hart(hart) => step_events(monitor, hart, count),
-        Entry::Tick(_) => step_each(monitor, entry, count),
+    match journal.next_events(cursor) {
+        Some((hart, count)) => {
+            step_events(monitor, hart, count)?;
+            Ok(count)
+        }
+        None => step_other(monitor, journal, cursor),
     }
+}
+
+/// The same where it is no record of events.
+#[inline(always)]
+fn step_other(
+    monitor: &mut Monitor,
+    journal: &Journal,
+    cursor: &mut Cursor,
+) -> Result<u32, StepFault>
+    requires { cursor.old < length (records_of journal.now.entries) }
+    ensures { StepsNext (records_of journal.now.entries) cursor.old cursor.new monitor.old.guest monitor.new.guest result }
+{
+    match journal.next_tick(cursor) {
+        Some(n) => {
+            step_each(monitor, &Entry::Tick(n), 1)?;
+            Ok(1)
+        }
+        None => step_any(monitor, journal, cursor),
+    }
+}
+
+/// The same of any record.
+fn step_any(monitor: &mut Monitor, journal: &Journal, cursor: &mut Cursor) -> Result<u32, StepFault>
+    requires { cursor.old < length (records_of journal.now.entries) }
+    ensures { StepsNext (records_of journal.now.entries) cursor.old cursor.new monitor.old.guest monitor.new.guest result }
+{
+    let Some((entry, count)) = journal.next(cursor) else {
+        unreachable!();
+    };
+    step_each(monitor, &entry, count)?;
+    Ok(count)
 }
 
 /// Makes so many events of a hart.

@@ -8,7 +8,7 @@ use super::{Monitor, Replayed, StepFault, replay};
 use std::alloc::Global;
 use std::process::Abort;
 use std::test::Fail;
-use tv_base::{FLAT_RAM_BYTES, HartNo, Memory, Width};
+use tv_base::{DevNo, FLAT_RAM_BYTES, HartNo, Memory, Width};
 use tv_fake::first_run::{IMAGE, JOURNAL};
 use tv_hart::{Loaded, Place, Stored};
 use tv_isa::AmoOp;
@@ -353,5 +353,35 @@ fn harts_interleave_as_their_entries_say(rt: HostRuntime) -> Result<(), Fail> {
         let put = console(&rt, words, turns)?;
         assert_eq!(rt; put.as_slice(), text.as_bytes(), "row {row}");
     }
+    Ok(())
+}
+
+/// A journal of so many rounds: 64 events of hart 0, 32 of hart 1, and a tick of 64.
+fn rounds(rt: &(impl AllocGlobal + Abort), count: u32) -> Result<Journal, Fail> {
+    let mut journal = Journal::new(rt.alloc(), 100, 0)?;
+    for _ in 0..count {
+        for (number, events) in [(0, 64), (1, 32)] {
+            let hart = HartNo::new(number).expect(rt, "a hart");
+            assert!(rt; journal.events() < 10000 && journal.outer().is_none());
+            assert!(rt; journal.push_events(hart, events));
+        }
+        assert!(rt; journal.events() < 10000 && journal.outer().is_none());
+        assert!(rt; journal.push(&Entry::Tick(64)));
+    }
+    Ok(journal)
+}
+
+#[test]
+fn an_entry_of_a_device_is_refused_at_its_record(rt: HostRuntime) -> Result<(), Fail> {
+    let machine = two_harts(rt.alloc())?;
+    let mut journal = rounds(&rt, 3)?;
+    assert_eq!(rt; (journal.records(), journal.events()), (9, 291));
+    let replayed = replay(rt.alloc(), &machine, &LOOP, &journal)?;
+    assert_eq!(rt; replayed, Replayed::Legal(None));
+    let device = DevNo::new(0).expect(&rt, "a device");
+    assert!(rt; journal.events() < 10000 && journal.outer().is_none());
+    assert!(rt; journal.push(&Entry::Take(device)));
+    let replayed = replay(rt.alloc(), &machine, &LOOP, &journal)?;
+    assert_eq!(rt; replayed, Replayed::Illegal(9));
     Ok(())
 }

@@ -6,8 +6,10 @@ use Rattle.tv_hart.specs.declared.Did.{Did}
 use Rattle.tv_hart.specs.declared.Did.TheVariants as did
 use Rattle.tv_journal.specs.declared.Entry.TheVariants as entry
 use Rattle.tv_journal.specs.Entries.{record_count}
-use Rattle.tv_journal.specs.Journals.{JournalState, has_room, has_room_for, pushed_all}
+use Rattle.tv_journal.specs.Journals.{JournalState, has_room, has_room_for, pushed_all, record_limit}
+use Rattle.tv_journal.proofs.Kept.{payload-one}
 use Rattle.tv_journal.proofs.Records.{run-count}
+use Rattle.tv_journal.proofs.Room.{room-of-records, run-room}
 use Rattle.tv_model.specs.Burst.{events_of, IsBurstOf}
 use Rattle.tv_model.specs.Guest.{state_of}
 use Rattle.tv_model.specs.GuestState.{GuestState}
@@ -136,13 +138,13 @@ turn-one setup room hart solo = onward-round (solo_event setup room hart solo)
 
 -- a burst for which there is no room
 pub burst-full : (hart left : ℕ) (old : Held) → 0 < left → old.guest.mode ≡ mode.Running → has_room old.journal (entry.Hart hart) ≡ false
-    → IsPart (turn old.guest.setup old.journal.record_room hart left) old old (Some stop.Full)
+    → IsPart (turn old.guest.setup (record_limit old.journal) hart left) old old (Some stop.Full)
 burst-full hart left old some running none =
-    part-all old.guest.setup old.journal.record_room hart 1 left old old stop.Full some (record {
+    part-all old.guest.setup (record_limit old.journal) hart 1 left old old stop.Full some (record {
       made = λ before.
-          let full : solo_event old.guest.setup old.journal.record_room hart (solo_at old before) ≡ (solo_at old before, Some stop.Full) =
-          event-full old.guest.setup old.journal.record_room hart (solo_at old before) (event_of (state_of old.guest) hart).0 (never-stalls (state_of old.guest) hart) none in
-          sym (turn-one old.guest.setup old.journal.record_room hart (solo_at old before) ∙ full);
+          let full : solo_event old.guest.setup (record_limit old.journal) hart (solo_at old before) ≡ (solo_at old before, Some stop.Full) =
+          event-full old.guest.setup (record_limit old.journal) hart (solo_at old before) (event_of (state_of old.guest) hart).0 (never-stalls (state_of old.guest) hart) (sym (room-of-records old.journal (entry.Hart hart ∷ []) (payload-one (entry.Hart hart))) ∙ none) in
+          sym (turn-one old.guest.setup (record_limit old.journal) hart (solo_at old before) ∙ full);
       so_far = λ first before so_far. so_far;
       setup = refl;
       room = refl;
@@ -154,7 +156,7 @@ burst-full hart left old some running none =
 pub burst-part : (old : Held) (later : GuestState) (kept : JournalState) (shown_bytes : List ℕ) (hart most n : ℕ) (seen : Shown) (result : Option Stop)
     → IsBurstOf old.guest later hart most (suc n) seen → has_room old.journal (entry.Hart hart) ≡ true
     → kept ≡ record old.journal { entries = old.journal.entries ++ replicate (suc n) (entry.Hart hart) } → shown_bytes ≡ old.bytes ++ byte_shown seen → result ≡ stopped_by later.mode
-    → IsPart (turn old.guest.setup old.journal.record_room hart (suc n)) old (record { guest = later; journal = kept; bytes = shown_bytes }) result
+    → IsPart (turn old.guest.setup (record_limit old.journal) hart (suc n)) old (record { guest = later; journal = kept; bytes = shown_bytes }) result
 burst-part old later kept shown_bytes hart most n seen result is room kept_is bytes_is result_is =
     let new : Held = record { guest = later; journal = kept; bytes = shown_bytes } in
     let setup : Setup = old.guest.setup in
@@ -168,11 +170,11 @@ burst-part old later kept shown_bytes hart most n seen result is room kept_is by
     record {
       made = λ (before : List ℕ).
           ap (λ (r : Option Stop). let g : Going = (solo_at new before, r) in g) result_is
-          ∙ sym (turn-events setup old.journal.record_room hart n (solo_at old before) is.moves.legal room ∙ ap going (solo_is before));
+          ∙ sym (turn-events setup (record_limit old.journal) hart n (solo_at old before) is.moves.legal (sym (room-of-records old.journal (entry.Hart hart ∷ []) (payload-one (entry.Hart hart))) ∙ room) ∙ ap going (solo_is before));
       so_far = λ (first : State) (before : List ℕ) (so_far : IsSoFar setup first (solo_at old before)).
           subst (IsSoFar setup first) (solo_is before) (so_far-events setup first hart (suc n) (solo_at old before) is.moves.legal so_far);
       setup = is.moves.setup;
-      room = ap (λ (j : JournalState). j.record_room) kept_is;
+      room = ap (λ (j : JournalState). record_limit j) kept_is;
       outer = ap (λ (j : JournalState). j.outer) kept_is;
       mode_is = rw result_is (stops-in later.mode);
     }
@@ -194,7 +196,7 @@ burst-unticked old later hart most n seen is = ap (λ (s : State). s.ticked) is.
 
 -- there is room for some events of a hart where there is room for one
 pub room-for-some : (journal : JournalState) (hart n : ℕ) → has_room journal (entry.Hart hart) ≡ true → has_room_for journal (replicate (suc n) (entry.Hart hart)) ≡ true
-room-for-some journal hart n is = ap (λ (k : ℕ). leb k journal.record_room) (run-count journal.entries hart n) ∙ is
+room-for-some journal hart n is = run-room journal hart (suc n) (omega arith) ∙ is
 
 pub kept-some : (journal later : JournalState) (hart count : ℕ) (answer : Bool) → 0 < count → has_room journal (entry.Hart hart) ≡ true
     → ◌≡◌ {A = Bool × JournalState} (answer, later) (pushed_all journal (replicate count (entry.Hart hart)))
@@ -206,7 +208,7 @@ kept-some journal later hart (suc n) answer some room is = kept-all journal late
 pub some-part : (old : Held) (later : GuestState) (kept : JournalState) (shown_bytes : List ℕ) (hart most count : ℕ) (seen : Shown) (result : Option Stop)
     → IsBurstOf old.guest later hart most count seen → count ≢ 0 → has_room old.journal (entry.Hart hart) ≡ true
     → kept ≡ record old.journal { entries = old.journal.entries ++ replicate count (entry.Hart hart) } → shown_bytes ≡ old.bytes ++ byte_shown seen → result ≡ stopped_by later.mode
-    → IsPart (turn old.guest.setup old.journal.record_room hart count) old (record { guest = later; journal = kept; bytes = shown_bytes }) result
+    → IsPart (turn old.guest.setup (record_limit old.journal) hart count) old (record { guest = later; journal = kept; bytes = shown_bytes }) result
 some-part old later kept shown_bytes hart most zero seen result is some room kept_is bytes_is result_is = absurd (some refl)
 some-part old later kept shown_bytes hart most (suc n) seen result is some room kept_is bytes_is result_is = burst-part old later kept shown_bytes hart most n seen result is room kept_is bytes_is result_is
 

@@ -6,7 +6,7 @@ use Rattle.std.proofs.lemmas.Bool.{false≢true}
 use Rattle.tv_base.specs.declared.Why.{Why}
 use Rattle.tv_base.specs.declared.Why.TheVariants as why
 use Rattle.tv_journal.specs.Grammar.{cause_byte}
-use Rattle.tv_journal.specs.Journals.{JournalState}
+use Rattle.tv_journal.specs.Journals.{JournalState, record_limit}
 use Rattle.tv_machine.specs.declared.machine.Machine.{Machine}
 use Rattle.tv_model.specs.Guest.{state_of, IsFirst}
 use Rattle.tv_model.specs.GuestState.{GuestState}
@@ -35,11 +35,11 @@ solo-first machine image guest journal first empty =
     λ i. record { state = state_same i; entries = empty i; bytes = [] }
 
 -- rounds from there
-pub rounds-first : (machine : Machine) (image : List ℕ) (guest : GuestState) (journal : JournalState) (n : ℕ) → IsFirst guest machine image → journal.entries ≡ [] → journal.record_room ≡ machine.journal_entries
-    → rounds guest.setup journal.record_room n (solo_at (record { guest = guest; journal = journal; bytes = [] }) []) ≡ solo_rounds machine image n
+pub rounds-first : (machine : Machine) (image : List ℕ) (guest : GuestState) (journal : JournalState) (n : ℕ) → IsFirst guest machine image → journal.entries ≡ [] → record_limit journal ≡ machine.journal_entries
+    → rounds guest.setup (record_limit journal) n (solo_at (record { guest = guest; journal = journal; bytes = [] }) []) ≡ solo_rounds machine image n
 rounds-first machine image guest journal n first empty room =
     let old : Solo = solo_at (record { guest = guest; journal = journal; bytes = [] }) [] in
-    ap (λ (setup : Setup). rounds setup journal.record_room n old) first.setup
+    ap (λ (setup : Setup). rounds setup (record_limit journal) n old) first.setup
     ∙ ap (λ (room : ℕ). rounds (setup_of machine) room n old) room
     ∙ ap (rounds (setup_of machine) machine.journal_entries n) (solo-first machine image guest journal first empty)
 
@@ -88,7 +88,7 @@ run-cause machine image solo (Some stop.Full) so_far mode_is = cause-of-outer ma
 run-cause machine image solo (Some (stop.Ended cause)) so_far mode_is = sym so_far.cause_is ∙ ap cause_in mode_is
 
 pub run-of : (machine : Machine) (image : List ℕ) (guest later : GuestState) (journal kept closed : JournalState) (ring : List ℕ) (stopped : Option Stop) (lost : Bool) (told now : ToldSink)
-    → IsFirst guest machine image → journal.entries ≡ [] → journal.record_room ≡ machine.journal_entries
+    → IsFirst guest machine image → journal.entries ≡ [] → record_limit journal ≡ machine.journal_entries
     → AreRounds (record { guest = guest; journal = journal; bytes = [] }) (record { guest = later; journal = kept; bytes = ring }) stopped lost told now
     → closed ≡ record kept { outer = outer_by kept.entries stopped }
     → IsRun machine image (record { journal = closed; stop = stopped; lost = lost }) told now

@@ -1,13 +1,16 @@
 -- A tick of the engine is that of the schedule.
-use Rattle.std.proofs.Common.{◌≡◌, ℕ, Bool, true, false, List, [], ◌∷◌, ◌++◌, Option, None, refl, ap, sym, ◌∙◌, subst, append-nil, arith}
+use Rattle.std.proofs.Common.{◌≡◌, ℕ, Bool, true, false, List, [], ◌∷◌, ◌++◌, Option, Some, None, refl, ap, sym, ◌∙◌, subst, append-nil, arith}
 use Rattle.tv_journal.specs.declared.Entry.TheVariants as entry
 use Rattle.tv_journal.specs.declared.Entry.{Entry}
-use Rattle.tv_journal.specs.Journals.{JournalState, has_room, has_room_for, pushed_all}
+use Rattle.tv_journal.specs.Journals.{JournalState, has_room, has_room_for, pushed_all, record_limit}
+use Rattle.tv_journal.proofs.Kept.{payload-one}
+use Rattle.tv_journal.proofs.Room.{room-of-records}
 use Rattle.tv_model.specs.Guest.{state_of, IsMade, IsAnswered}
 use Rattle.tv_model.specs.GuestState.{GuestState}
 use Rattle.tv_spec.specs.declared.Mode.{Mode}
 use Rattle.tv_spec.specs.declared.Mode.TheVariants as mode
 use Rattle.tv_spec.specs.declared.Stop.{Stop}
+use Rattle.tv_spec.specs.declared.Stop.TheVariants as stop
 use Rattle.tv_spec.specs.SoFar.{IsSoFar}
 use Rattle.tv_spec.specs.Solo.{makes, stopped_by, solo_tick}
 use Rattle.tv_spec.specs.State.{State}
@@ -39,7 +42,7 @@ tick-made g later journal kept bytes before is kept_is =
 
 pub tick-part : (g later : GuestState) (journal kept : JournalState) (bytes : List ℕ)
     → IsMade g later (made (entry.Tick 64)) → has_room journal (entry.Tick 64) ≡ true → kept ≡ record journal { entries = journal.entries ++ entry.Tick 64 ∷ [] }
-    → IsPart (solo_tick g.setup journal.record_room) (record { guest = g; journal = journal; bytes = bytes }) (record { guest = later; journal = kept; bytes = bytes }) None
+    → IsPart (solo_tick g.setup (record_limit journal)) (record { guest = g; journal = journal; bytes = bytes }) (record { guest = later; journal = kept; bytes = bytes }) None
 tick-part g later journal kept bytes is room kept_is =
     let old : Held = record { guest = g; journal = journal; bytes = bytes } in
     let new : Held = record { guest = later; journal = kept; bytes = bytes } in
@@ -47,15 +50,30 @@ tick-part g later journal kept bytes is room kept_is =
     record {
       made = λ (before : List ℕ).
           let made_is = tick-made g later journal kept bytes before is kept_is in
-          sym (rw room (λ i. (made_is i, none)));
+          let free = sym (room-of-records journal (entry.Tick 64 ∷ []) (payload-one (entry.Tick 64))) ∙ room in
+          sym (rw free (λ i. (made_is i, none)));
       so_far = λ (first : State) (before : List ℕ) (so_far : IsSoFar g.setup first (solo_at old before)).
           subst (IsSoFar g.setup first) (tick-made g later journal kept bytes before is kept_is)
           (so_far-more g.setup first (solo_at old before) (entry.Tick 64) so_far is.can);
       setup = is.setup;
-      room = ap (λ (j : JournalState). j.record_room) kept_is;
+      room = ap (λ (j : JournalState). record_limit j) kept_is;
       outer = ap (λ (j : JournalState). j.outer) kept_is;
       mode_is = ap (λ (s : State). s.mode) is.state ∙ is.can.running;
     }
+
+-- a tick for which there is no room
+pub tick-full : (g : GuestState) (journal : JournalState) (bytes : List ℕ) → g.mode ≡ mode.Running → has_room journal (entry.Tick 64) ≡ false
+    → IsPart (solo_tick g.setup (record_limit journal)) (record { guest = g; journal = journal; bytes = bytes }) (record { guest = g; journal = journal; bytes = bytes }) (Some stop.Full)
+tick-full g journal bytes runs none = record {
+  made = λ (before : List ℕ).
+      let full = sym (room-of-records journal (entry.Tick 64 ∷ []) (payload-one (entry.Tick 64))) ∙ none in
+      sym (rw full refl);
+  so_far = λ first before so_far. so_far;
+  setup = refl;
+  room = refl;
+  outer = refl;
+  mode_is = runs;
+}
 
 -- where a tick may stand, it is made
 pub tick-answered : (g later : GuestState) (answer : Bool) → g.mode ≡ mode.Running → g.ticked ≡ false → IsAnswered g later (made (entry.Tick 64)) answer → IsMade g later (made (entry.Tick 64))

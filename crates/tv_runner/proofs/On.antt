@@ -1,5 +1,6 @@
 -- The parts of the schedule one after another.
 use Rattle.std.proofs.Common.{◌≡◌, ◌<◌, ℕ, suc, List, Option, Some, None, true, false, refl, ap, sym, ◌∙◌}
+use Rattle.tv_journal.specs.Journals.{record_limit}
 use Rattle.std.specs.Prelude.{Result, Ok, Err}
 use Rattle.std.specs.Result.{is_err, result_err}
 use Rattle.std.proofs.lemmas.Bool.{false≢true}
@@ -16,7 +17,7 @@ pub record IsOn (whole rest : Solo → Going) (old now : Held) : Type 0 where
   pub leads : (before : List ℕ) → ◌≡◌ {A = Going} (rest (solo_at now before)) (whole (solo_at old before))
   pub so_far : (first : State) (before : List ℕ) → IsSoFar old.guest.setup first (solo_at old before) → IsSoFar old.guest.setup first (solo_at now before)
   pub setup : now.guest.setup ≡ old.guest.setup
-  pub room : now.journal.record_room ≡ old.journal.record_room
+  pub room : record_limit now.journal ≡ record_limit old.journal
   pub outer : now.journal.outer ≡ old.journal.outer
   pub runs : now.guest.mode ≡ mode.Running
 
@@ -77,14 +78,14 @@ turns-over setup room hart left solo over = rw over refl
 
 -- two parts one after another
 pub part-twice : (first : Solo → Going) (second : Setup → ℕ → Solo → Going) (old now new : Held) (result : Option Stop) → IsPart first old now None
-    → IsPart (second now.guest.setup now.journal.record_room) now new result
-    → IsPart (λ solo. onward (second old.guest.setup old.journal.record_room) (first solo)) old new result
+    → IsPart (second now.guest.setup (record_limit now.journal)) now new result
+    → IsPart (λ solo. onward (second old.guest.setup (record_limit old.journal)) (first solo)) old new result
 part-twice first second old now new result one two = record {
   made = λ before.
       two.made before
-      ∙ ap (λ (setup : Setup). second setup now.journal.record_room (solo_at now before)) one.setup
+      ∙ ap (λ (setup : Setup). second setup (record_limit now.journal) (solo_at now before)) one.setup
       ∙ ap (λ (room : ℕ). second old.guest.setup room (solo_at now before)) one.room
-      ∙ ap (onward (second old.guest.setup old.journal.record_room)) (one.made before);
+      ∙ ap (onward (second old.guest.setup (record_limit old.journal))) (one.made before);
   so_far = λ start before so_far. rw (sym one.setup) (two.so_far start before (rw one.setup (one.so_far start before so_far)));
   setup = two.setup ∙ one.setup;
   room = two.room ∙ one.room;

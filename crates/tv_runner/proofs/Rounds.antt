@@ -1,6 +1,6 @@
 -- Rounds one after another.
 use Rattle.std.proofs.Common.{◌≡◌, ℕ, zero, suc, ◌+◌, ◌-◌, ◌≤◌, ◌<◌, ◌*◌, length, List, [], ◌++◌, Option, Some, None, Bool, true, false, refl, ap, sym, ◌∙◌, subst, append_assoc, append-nil, arith}
-use Rattle.tv_journal.specs.Journals.{JournalState}
+use Rattle.tv_journal.specs.Journals.{JournalState, record_limit}
 use Rattle.tv_model.specs.GuestState.{GuestState}
 use Rattle.std.specs.Prelude.{IfNone, Result, Ok, Err, OnOk, OnErr}
 use Rattle.std.specs.Option.{is_some}
@@ -94,7 +94,7 @@ part-later part g later journal kept said bytes result is =
 pub record IsAt (old : Held) (guest : GuestState) (journal : JournalState) (before now : ToldSink) : Type 0 where
   pub rounds_so_far : ℕ
   pub bytes : List ℕ
-  pub part : IsPart (rounds old.guest.setup old.journal.record_room rounds_so_far) old (record { guest = guest; journal = journal; bytes = bytes }) None
+  pub part : IsPart (rounds old.guest.setup (record_limit old.journal) rounds_so_far) old (record { guest = guest; journal = journal; bytes = bytes }) None
   pub few : rounds_so_far ≤ guest.events
   pub limit : guest.events < old.guest.setup.steps
   pub entries : length journal.entries ≤ guest.events * 2
@@ -104,20 +104,20 @@ pub record IsAt (old : Held) (guest : GuestState) (journal : JournalState) (befo
 
 -- a round more by what it came to
 pub at-round : (old : Held) (guest later : GuestState) (journal kept : JournalState) (ring : List ℕ) (result : Option Stop) (before now : ToldSink)
-    (at : IsAt old guest journal before now) → IsPart (round guest.setup journal.record_room) (record { guest = guest; journal = journal; bytes = [] }) (record { guest = later; journal = kept; bytes = ring }) result
-    → IsPart (rounds old.guest.setup old.journal.record_room (suc at.rounds_so_far)) old (record { guest = later; journal = kept; bytes = at.bytes ++ ring }) result
+    (at : IsAt old guest journal before now) → IsPart (round guest.setup (record_limit journal)) (record { guest = guest; journal = journal; bytes = [] }) (record { guest = later; journal = kept; bytes = ring }) result
+    → IsPart (rounds old.guest.setup (record_limit old.journal) (suc at.rounds_so_far)) old (record { guest = later; journal = kept; bytes = at.bytes ++ ring }) result
 at-round old guest later journal kept ring result before now at part =
     let middle : Held = record { guest = guest; journal = journal; bytes = at.bytes } in
     let new : Held = record { guest = later; journal = kept; bytes = at.bytes ++ ring } in
     let setup : Setup = old.guest.setup in
-    let room : ℕ = old.journal.record_room in
+    let room : ℕ = record_limit old.journal in
     part-same (λ solo. onward (round setup room) (rounds setup room at.rounds_so_far solo)) (rounds setup room (suc at.rounds_so_far)) old new result
     (rounds-more setup room at.rounds_so_far)
     (part-twice (rounds setup room at.rounds_so_far) round old middle new result at.part
-    (part-later (round guest.setup journal.record_room) guest later journal kept at.bytes ring result part))
+    (part-later (round guest.setup (record_limit journal)) guest later journal kept at.bytes ring result part))
 
 pub at-on : (old : Held) (guest later : GuestState) (journal kept : JournalState) (ring : List ℕ) (before now after : ToldSink) → IsAt old guest journal before now
-    → IsPart (round guest.setup journal.record_room) (record { guest = guest; journal = journal; bytes = [] }) (record { guest = later; journal = kept; bytes = ring }) None
+    → IsPart (round guest.setup (record_limit journal)) (record { guest = guest; journal = journal; bytes = [] }) (record { guest = later; journal = kept; bytes = ring }) None
     → IsRoundWithin guest later journal kept None → after.bytes ≡ appended now.bytes ring → now.faults ≤ after.faults → IsSteady now after → IsAt old later kept before after
 at-on old guest later journal kept ring before now after at part within told later_faults steady = record {
   rounds_so_far = suc at.rounds_so_far;
@@ -147,7 +147,7 @@ put-by (Err fault) said ring before now after told risen steady all steady_on fa
 
 pub at-end : {E : Type 0} (old : Held) (guest later : GuestState) (journal kept : JournalState) (ring : List ℕ) (result : Result (Unit {0}) Stop) (stop : Option Stop)
     (went : Result (Unit {0}) E) (lost : Bool) (before now after : ToldSink) → IsAt old guest journal before now
-    → IsPart (round guest.setup journal.record_room) (record { guest = guest; journal = journal; bytes = [] }) (record { guest = later; journal = kept; bytes = ring }) (result_err result)
+    → IsPart (round guest.setup (record_limit journal)) (record { guest = guest; journal = journal; bytes = [] }) (record { guest = later; journal = kept; bytes = ring }) (result_err result)
     → stop ≡ result_err result → lost ≡ is_err went → IfNone stop (lost ≡ true)
     → OnOk went (after.bytes ≡ appended now.bytes ring) → OnOk went (IsSteady now after)
     → OnErr went (Rose now.faults after.faults) → OnErr went (IsCut ring now.bytes after.bytes)
@@ -175,7 +175,7 @@ at-start old now runs new limit empty = record {
   rounds_so_far = 0;
   bytes = [];
   part = record {
-    made = λ before. sym (rounds-zero old.guest.setup old.journal.record_room (solo_at (record old { bytes = [] }) before));
+    made = λ before. sym (rounds-zero old.guest.setup (record_limit old.journal) (solo_at (record old { bytes = [] }) before));
     so_far = λ first before so_far. so_far;
     setup = refl;
     room = refl;

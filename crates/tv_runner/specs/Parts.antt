@@ -1,6 +1,6 @@
 -- The engine of runs on one thread, part by part: what it holds is a run so far, and each part is that of the schedule.
 use Rattle.std.specs.Prelude.{◌≡◌, ℕ, ◌+◌, ◌*◌, ◌<◌, ◌≤◌, false, ◌++◌, List, [], length, Option, Some, None, IfNone, Result, Ok, Err}
-use Rattle.tv_journal.specs.Journals.{JournalState}
+use Rattle.tv_journal.specs.Journals.{JournalState, record_limit}
 use Rattle.tv_machine.specs.declared.machine.Machine.{Machine}
 use Rattle.tv_model.specs.Guest.{state_of, IsFirst}
 use Rattle.tv_model.specs.GuestState.{GuestState}
@@ -25,7 +25,7 @@ held engine = record { guest = engine.guest; journal = engine.journal; bytes = e
 -- the engine of a machine with an image, before its first event
 pub record IsNew (machine : Machine) (image : List ℕ) (engine : Engine) : Type 0 where
   pub guest : IsFirst engine.guest machine image
-  pub journal : engine.journal ≡ record { entries = []; outer = None; record_room = machine.journal_entries; payload_room = machine.journal_bytes }
+  pub journal : engine.journal ≡ record { entries = []; outer = None; record_room = machine.journal_entries; payload_room = machine.journal_bytes; reserved_records = 0; reserved_bytes = 0 }
 
 -- the run so far that it is, with the bytes of the rounds before
 abbrev pub solo_at : Held → List ℕ → Solo
@@ -41,7 +41,7 @@ pub record IsPart (part : Solo → Going) (old new : Held) (result : Option Stop
   pub made : (before : List ℕ) → ◌≡◌ {A = Going} (solo_at new before, result) (part (solo_at old before))
   pub so_far : (first : State) (before : List ℕ) → IsSoFar old.guest.setup first (solo_at old before) → IsSoFar old.guest.setup first (solo_at new before)
   pub setup : new.guest.setup ≡ old.guest.setup
-  pub room : new.journal.record_room ≡ old.journal.record_room
+  pub room : record_limit new.journal ≡ record_limit old.journal
   pub outer : new.journal.outer ≡ old.journal.outer
   pub mode_is : StopsIn result new.guest.mode
 
@@ -59,14 +59,14 @@ pub record IsWithin (most : ℕ) (old new : Held) (result : Option Stop) : Type 
 pub record IsOnward (hart left made : ℕ) (old new : Held) : Type 0 where
   pub some : 0 < made
   pub few : made ≤ left
-  pub part : IsPart (turn old.guest.setup old.journal.record_room hart made) old new None
+  pub part : IsPart (turn old.guest.setup (record_limit old.journal) hart made) old new None
   pub within : IsWithin made old new None
 
 -- what a burst of up to so many events of a hart came to; where the run stopped, a turn of all of them stops just there
 abbrev pub BurstComesTo : ℕ → ℕ → Held → Held → Result ℕ Stop → Type 0
 BurstComesTo hart left old new (Ok made) = IsOnward hart left made old new
 BurstComesTo hart left old new (Err stopped) =
-    IsPart (turn old.guest.setup old.journal.record_room hart left) old new (Some stopped) × IsWithin left old new (Some stopped)
+    IsPart (turn old.guest.setup (record_limit old.journal) hart left) old new (Some stopped) × IsWithin left old new (Some stopped)
 
 -- a round made at most an entry more than events; where the run goes on, it made some
 pub record IsRoundWithin (old new : GuestState) (journal kept : JournalState) (result : Option Stop) : Type 0 where

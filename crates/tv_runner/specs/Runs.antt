@@ -3,6 +3,7 @@ use Rattle.std.specs.Prelude.{◌≡◌, ℕ, suc, ◌≤◌, ◌++◌, List, le
 use Rattle.tv_base.specs.declared.Why.{Why}
 use Rattle.tv_base.specs.declared.Why.TheVariants as why
 use Rattle.tv_journal.specs.declared.Entry.{Entry}
+use Rattle.tv_journal.specs.Journals.{record_limit}
 use Rattle.tv_machine.specs.declared.machine.Machine.{Machine}
 use Rattle.tv_out.specs.Faults.{Rose}
 use Rattle.tv_out.specs.Told.{ToldSink, appended, IsAllOut, IsCut}
@@ -34,8 +35,8 @@ pub record AreRounds (old new : Held) (stop : Option Stop) (lost : Bool) (told n
   pub earlier : ℕ
   pub middle : Held
   pub bytes : List ℕ
-  pub before : IsPart (rounds old.guest.setup old.journal.record_room earlier) old middle None
-  pub part : IsPart (rounds old.guest.setup old.journal.record_room (suc earlier)) old (record new { bytes = bytes }) stop
+  pub before : IsPart (rounds old.guest.setup (record_limit old.journal) earlier) old middle None
+  pub part : IsPart (rounds old.guest.setup (record_limit old.journal) (suc earlier)) old (record new { bytes = bytes }) stop
   pub few : suc earlier ≤ old.guest.setup.steps
   pub stopped : IfNone stop (lost ≡ true)
   pub put : IsPut lost middle.bytes bytes told now

@@ -2,6 +2,7 @@
 
 ghost use Rattle.std.specs.Prelude.{false, ◌≡◌, ◌<◌, ◌≤◌, ◌+◌, ◌-◌, ◌*◌, ◌^◌, ◌++◌, [], None, IfOk, length};
 ghost use Rattle.std.specs.Result.{result_err};
+ghost use Rattle.tv_journal.specs.Journals.{record_limit};
 ghost use Rattle.tv_machine.specs.Valid.{IsValid};
 ghost use Rattle.tv_spec.specs.Shows.{byte_shown};
 ghost use Rattle.tv_spec.specs.Solo.{turn, turns, solo_tick, round};
@@ -92,7 +93,7 @@ impl Engine {
         requires few { length self.old.journal.entries + 513 < 2 ^ 32 }
         requires ring { self.old.bytes.items ≡ [] }
         requires open { self.old.journal.outer ≡ None }
-        ensures part { IsPart (round self.old.guest.setup self.old.journal.record_room) (held self.old) (held self.new) (result_err result) }
+        ensures part { IsPart (round self.old.guest.setup (record_limit self.old.journal)) (held self.old) (held self.new) (result_err result) }
         ensures few { self.old.guest.setup.harts ≤ 8 }
         ensures within { IsRoundWithin self.old.guest self.new.guest self.old.journal self.new.journal (result_err result) }
     {
@@ -111,7 +112,7 @@ impl Engine {
         requires few { length self.old.journal.entries + 512 < 2 ^ 32 }
         requires ring { self.old.bytes.items ≡ [] }
         requires open { self.old.journal.outer ≡ None }
-        ensures part { IsPart (turns self.old.guest.setup self.old.journal.record_room 0 self.old.guest.setup.harts) (held self.old) (held self.new) (result_err result) }
+        ensures part { IsPart (turns self.old.guest.setup (record_limit self.old.journal) 0 self.old.guest.setup.harts) (held self.old) (held self.new) (result_err result) }
         ensures few { self.old.guest.setup.harts ≤ 8 }
         ensures within { IsWithin (self.old.guest.setup.harts * 64) (held self.old) (held self.new) (result_err result) }
     {
@@ -137,7 +138,7 @@ impl Engine {
         requires few { length self.old.journal.entries + 64 < 2 ^ 32 }
         requires ring { length self.old.bytes.items + 64 ≤ 512 }
         requires open { self.old.journal.outer ≡ None }
-        ensures part { IsPart (turn self.old.guest.setup self.old.journal.record_room hart 64) (held self.old) (held self.new) (result_err result) }
+        ensures part { IsPart (turn self.old.guest.setup (record_limit self.old.journal) hart 64) (held self.old) (held self.new) (result_err result) }
         ensures within { IsWithin 64 (held self.old) (held self.new) (result_err result) }
     {
         let mut left = TURN;
@@ -186,7 +187,7 @@ impl Engine {
         requires unticked { self.old.guest.ticked ≡ false }
         requires few { length self.old.journal.entries < 2 ^ 32 - 1 }
         requires open { self.old.journal.outer ≡ None }
-        ensures part { IsPart (solo_tick self.old.guest.setup self.old.journal.record_room) (held self.old) (held self.new) (result_err result) }
+        ensures part { IsPart (solo_tick self.old.guest.setup (record_limit self.old.journal)) (held self.old) (held self.new) (result_err result) }
         ensures entries { length self.new.journal.entries ≤ length self.old.journal.entries + 1 }
         ensures events { self.new.guest.events ≡ self.old.guest.events }
         ensures bytes { self.new.bytes ≡ self.old.bytes }

@@ -44,6 +44,7 @@ cause-by (Some cause) = refl
 pub cause-more : (setup : Setup) (s : State) (e : Entry) → Can setup s (made e) → cause_in (done setup s (made e)).mode ≡ or_else (cause_in s.mode) (or_else (end_of setup s (made e)) None)
 cause-more setup s (entry.Hart hart) can = rw can.running (cause-by (end_of_event setup s hart))
 cause-more setup s (entry.Tick n) can = rw can.running refl
+cause-more setup s e can = absurd can
 
 pub so_far-more : (setup : Setup) (first : State) (solo : Solo) (e : Entry) → IsSoFar setup first solo → Can setup solo.state (made e) → IsSoFar setup first (makes setup solo e)
 so_far-more setup first solo e so_far can =

@@ -28,7 +28,7 @@ debug_bytes setup s (move ∷ moves) = bytes_of s move ++ debug_bytes setup (don
 -- the cause for which a move ends the run
 abbrev pub end_of : Setup → State → Move → Option Why
 end_of setup s (made (entry.Hart hart)) = end_of_event setup s hart
-end_of setup s (made (entry.Tick n)) = None
+end_of setup s (made e) = None
 end_of setup s (ended cause) = Some cause
 
 abbrev pub or_else : Option Why → Option Why → Option Why

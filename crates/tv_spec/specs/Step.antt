@@ -69,10 +69,11 @@ pub record CanEnd (s : State) (cause : Why) : Type 0 where
   pub is_open : IsOpen s.mode
   pub outer : cause_byte cause ≢ None
 
--- where a move may stand
+-- where a move may stand; no device is there yet, so none of its steps may
 abbrev pub Can : Setup → State → Move → Type 0
 Can setup s (made (entry.Hart hart)) = CanStep setup s hart
 Can setup s (made (entry.Tick n)) = CanTick s n
+Can setup s (made e) = ⊥
 Can setup s (ended cause) = CanEnd s cause
 
 -- what a move makes of the state; where it may not stand, this says nothing
@@ -85,4 +86,5 @@ done setup s (made (entry.Hart hart)) = record s {
   ticked = false;
 }
 done setup s (made (entry.Tick n)) = record s { local = after_tick s.local n; ticked = true }
+done setup s (made e) = s
 done setup s (ended cause) = record s { mode = mode.Ending cause }

@@ -7,8 +7,10 @@ use Rattle.tv_journal.specs.declared.JournalFault.TheVariants as journal_fault
 use Rattle.tv_journal.specs.Entries.{entries_of, record_count}
 use Rattle.tv_journal.specs.Grammar.{IsLongestFront}
 use Rattle.tv_journal.specs.Reading.{Read, HasRead, read_of}
+use Rattle.tv_journal.specs.Stores.{held}
 use Rattle.tv_journal.proofs.Ends.{has-read-first, has-read-more, refused, no-file, cut-short, not-whole}
 use Rattle.tv_journal.proofs.Records.{count-again}
+use Rattle.tv_journal.proofs.Room.{held-length}
 use Rattle.tv_journal.proofs.Journal.read_file.Goals as goal
 
 place_of : (m n : ℕ) → ◌≡◌ {A = Result Journal JournalFault} (Err (journal_fault.At m)) (Err (journal_fault.At n)) → m ≡ n
@@ -56,5 +58,5 @@ returns-then-not-done-clause-no_file c = λ (n : ℕ) is.
 pub returns-clause-room : goal.returns-clause-room
 returns-clause-room c =
     let lines = c.loop-at.invariant.has.follows.lines in
-    let counted : record_count (entries_of c.loop-at.reader.records.items) ≡ length c.loop-at.reader.records.items = count-again c.loop-at.reader.records.items lines.each lines.apart in
-    omega (arith, c.len-room.ensures)
+    let counted : record_count (entries_of (held c.loop-at.reader.store)) ≡ length (held c.loop-at.reader.store) = count-again (held c.loop-at.reader.store) lines.each lines.apart in
+    omega (arith, c.len-record_room.ensures, held-length c.loop-at.reader.store)

@@ -1,12 +1,11 @@
 use Rattle.std.proofs.Common.{◌≡◌, ℕ, ◌+◌, ◌<◌, Option, ap, sym, ◌∙◌, subst, arith}
 use Rattle.tv_base.specs.declared.Why.{Why}
-use Rattle.tv_journal.specs.declared.record.Record.TheVariants as record_of
 use Rattle.tv_journal.specs.Entries.{record_count, records_of}
 use Rattle.tv_journal.specs.Journals.{IsOuterEnd}
 use Rattle.tv_model.specs.declared.replays.Replayed.TheVariants as replayed
 use Rattle.tv_model.specs.Replay.{ReplaysSo}
 use Rattle.tv_model.specs.Replaying.{HasLeft, closer, not_due}
-use Rattle.tv_model.proofs.Played.{IsPlayed, played-first, played-due, played-record, next-found, next-none, left-next, entry-illegal, end-illegal, all-legal, counted}
+use Rattle.tv_model.proofs.Played.{IsPlayed, played-first, played-due, played-record, next-found, left-next, entry-illegal, end-illegal, all-legal, counted}
 use Rattle.tv_model.proofs.Stepping.{border-cause}
 use Rattle.tv_model.proofs.replays.replay.Goals as goal
 
@@ -28,45 +27,45 @@ returns-then-not-end_if_due c =
     end-illegal c.args.machine.now c.args.image.now c.args.journal.now.entries c.args.journal.now.outer c.loop-record.monitor.guest c.loop-record.record c.loop-record.outer
     c.loop-record.invariant.played (omega arith) c.if-not-end_if_due.ensures
 
-pub unreachable-requires : goal.unreachable-requires
-unreachable-requires c =
+pub step_next-requires : goal.step_next-requires
+step_next-requires c =
     let within : c.loop-record.record < record_count c.args.journal.now.entries = omega (arith, c.records-records.ensures) in
-    next-none (records_of c.args.journal.now.entries) c.loop-record.cursor c.next.new.cursor (record_of.Tick 0) c.in_default.ensures
-    (counted c.args.journal.now.entries c.loop-record.cursor (omega (arith, c.loop-record.invariant.cursor)))
+    counted c.args.journal.now.entries c.loop-record.cursor (omega (arith, c.loop-record.invariant.cursor))
 
 pub returns-in-Err-Illegal : goal.returns-in-Err-Illegal
 returns-in-Err-Illegal c =
     let entries = c.args.journal.now.entries in
-    let found = next-found (records_of entries) c.loop-record.record c.loop-record.cursor c.next.new.cursor c.in-Some.entry c.in-Some.count c.in-Some.ensures c.loop-record.invariant.cursor in
-    entry-illegal c.args.machine.now c.args.image.now entries c.args.journal.now.outer c.end_if_due.new.monitor.guest c.loop-record.record c.in-Some.count c.in-Some.entry c.loop-record.outer
+    let found = next-found (records_of entries) c.loop-record.record c.loop-record.cursor c.step_next.new.cursor c.in-Err-Illegal.ensures.entry c.in-Err-Illegal.ensures.count c.in-Err-Illegal.ensures.next c.loop-record.invariant.cursor in
+    entry-illegal c.args.machine.now c.args.image.now entries c.args.journal.now.outer c.end_if_due.new.monitor.guest c.loop-record.record c.in-Err-Illegal.ensures.count c.in-Err-Illegal.ensures.entry c.loop-record.outer
     (played-due c.args.machine.now c.args.image.now entries c.args.journal.now.outer c.loop-record.monitor.guest c.end_if_due.new.monitor.guest c.loop-record.record c.loop-record.outer
     c.loop-record.invariant.played c.if-not-end_if_due.ensures.0)
-    found.0 (rw c.in-Err-Illegal.field-0-is at c.in-Err-Illegal.ensures)
+    found.0 (rw c.in-Err-Illegal.field-0-is at c.in-Err-Illegal.ensures.steps)
 
 pub come_closer-outer-requires : goal.come_closer-outer-requires
 come_closer-outer-requires c =
     let entries = c.args.journal.now.entries in
-    let found = next-found (records_of entries) c.loop-record.record c.loop-record.cursor c.next.new.cursor c.in-Some.entry c.in-Some.count c.in-Some.ensures c.loop-record.invariant.cursor in
+    let found = next-found (records_of entries) c.loop-record.record c.loop-record.cursor c.step_next.new.cursor c.in-Ok.ensures.entry c.in-Ok.ensures.count c.in-Ok.ensures.next c.loop-record.invariant.cursor in
     let played : IsPlayed c.args.machine.now c.args.image.now entries c.args.journal.now.outer c.end_if_due.new.monitor.guest c.loop-record.record (not_due c.loop-record.outer) =
     played-due c.args.machine.now c.args.image.now entries c.args.journal.now.outer c.loop-record.monitor.guest c.end_if_due.new.monitor.guest c.loop-record.record c.loop-record.outer
     c.loop-record.invariant.played c.if-not-end_if_due.ensures.0 in
-    subst (HasLeft c.in-Some.count) (sym c.if-not-end_if_due.ensures.1)
-    (left-next (records_of entries) c.loop-record.record c.in-Some.count c.in-Some.entry c.loop-record.outer found.0 played.border)
+    rw c.in-Ok.ensures.counted
+    (subst (HasLeft c.in-Ok.ensures.count) (sym c.if-not-end_if_due.ensures.1)
+    (left-next (records_of entries) c.loop-record.record c.in-Ok.ensures.count c.in-Ok.ensures.entry c.loop-record.outer found.0 played.border))
 
 pub loop-record-preserved : goal.loop-record-preserved
 loop-record-preserved c =
     let entries = c.args.journal.now.entries in
-    let found = next-found (records_of entries) c.loop-record.record c.loop-record.cursor c.next.new.cursor c.in-Some.entry c.in-Some.count c.in-Some.ensures c.loop-record.invariant.cursor in
+    let found = next-found (records_of entries) c.loop-record.record c.loop-record.cursor c.step_next.new.cursor c.in-Ok.ensures.entry c.in-Ok.ensures.count c.in-Ok.ensures.next c.loop-record.invariant.cursor in
     let played : IsPlayed c.args.machine.now c.args.image.now entries c.args.journal.now.outer c.end_if_due.new.monitor.guest c.loop-record.record (not_due c.loop-record.outer) =
     played-due c.args.machine.now c.args.image.now entries c.args.journal.now.outer c.loop-record.monitor.guest c.end_if_due.new.monitor.guest c.loop-record.record c.loop-record.outer
     c.loop-record.invariant.played c.if-not-end_if_due.ensures.0 in
-    let closer_is : c.come_closer-outer.result ≡ closer c.in-Some.count (not_due c.loop-record.outer) =
-    c.come_closer-outer.ensures ∙ ap (λ (left : Option (ℕ × Why)). closer c.in-Some.count left) c.if-not-end_if_due.ensures.1 in
+    let closer_is : c.come_closer-outer.result ≡ closer c.in-Ok.ensures.count (not_due c.loop-record.outer) =
+    c.come_closer-outer.ensures ∙ ap (λ (n : ℕ). closer n c.end_if_due.new.outer) c.in-Ok.ensures.counted ∙ ap (λ (left : Option (ℕ × Why)). closer c.in-Ok.ensures.count left) c.if-not-end_if_due.ensures.1 in
     record {
       played =
-          subst (IsPlayed c.args.machine.now c.args.image.now entries c.args.journal.now.outer c.step_often.new.monitor.guest (c.loop-record.record + 1)) (sym closer_is)
-          (played-record c.args.machine.now c.args.image.now entries c.args.journal.now.outer c.end_if_due.new.monitor.guest c.step_often.new.monitor.guest c.loop-record.record c.in-Some.count
-          c.in-Some.entry c.loop-record.outer played found.0 c.in-Ok.ensures);
+          subst (IsPlayed c.args.machine.now c.args.image.now entries c.args.journal.now.outer c.step_next.new.monitor.guest (c.loop-record.record + 1)) (sym closer_is)
+          (played-record c.args.machine.now c.args.image.now entries c.args.journal.now.outer c.end_if_due.new.monitor.guest c.step_next.new.monitor.guest c.loop-record.record c.in-Ok.ensures.count
+          c.in-Ok.ensures.entry c.loop-record.outer played found.0 c.in-Ok.ensures.steps);
       cursor = found.1;
     }
 

@@ -1,6 +1,6 @@
 use Rattle.std.proofs.Common.{◌≡◌, ◌≢◌, ◌<◌, true, None, Some, ap, sym, ◌∙◌, refl, arith}
 use Rattle.tv_journal.specs.declared.Entry.TheVariants as entry
-use Rattle.tv_journal.specs.Journals.{has_room}
+use Rattle.tv_journal.specs.Journals.{has_room, record_limit}
 use Rattle.tv_spec.specs.declared.Stop.TheVariants as stop
 use Rattle.tv_spec.specs.Solo.{stopped_by}
 use Rattle.tv_runner.specs.Parts.{Held, held}
@@ -38,7 +38,7 @@ returns-in-Ending c =
     let not_none : made ≢ 0 = λ none. absurd (omega (arith, some, none)) in
     let room : has_room old.journal (entry.Hart c.args.hart) ≡ true = sym c.has_room.ensures ∙ c.if-not-has_room.false in
     let kept = kept-some old.journal c.push_events-added.new.self c.args.hart made c.push_events-added.result some room c.push_events-added.ensures in (
-      part-all old.guest.setup old.journal.record_room c.args.hart made c.args.left old new (stop.Ended c.in-Ending.why) c.burst-made.ensures.few
+      part-all old.guest.setup (record_limit old.journal) c.args.hart made c.args.left old new (stop.Ended c.in-Ending.why) c.burst-made.ensures.few
           (some-part old c.burst-made.new.self c.push_events-added.new.self c.show.new.bytes.items c.args.hart c.args.left made c.burst-made.result.1 (Some (stop.Ended c.in-Ending.why))
           c.burst-made.ensures not_none room kept c.show.ensures.shown (ap stopped_by (sym c.in-Ending.is ∙ c.mode.ensures.mode))),
       within-stopped old c.burst-made.new.self c.push_events-added.new.self c.show.new.bytes.items c.args.hart c.args.left made c.burst-made.result.1 (stop.Ended c.in-Ending.why)

@@ -1,4 +1,5 @@
 use Rattle.std.proofs.Common.{arith}
+use Rattle.tv_journal.specs.Journals.{record_limit}
 use Rattle.std.specs.Result.{result_err}
 use Rattle.tv_spec.specs.Solo.{turns, solo_tick}
 use Rattle.tv_runner.specs.Parts.{Held, held}
@@ -14,6 +15,6 @@ returns-in-Ok-clause-part c =
     let now : Held = held c.turns.new.self in
     let new : Held = held c.tick.new.self in
     let setup = old.guest.setup in
-    let room = old.journal.record_room in
+    let room = record_limit old.journal in
     part-twice (turns setup room 0 setup.harts) solo_tick old now new (result_err c.tick.result) c.in-Ok.ensures.part
     c.tick.ensures.part

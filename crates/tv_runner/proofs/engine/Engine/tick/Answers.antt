@@ -1,7 +1,11 @@
 use Rattle.std.proofs.Common.{[], ◌∷◌, sym, ◌∙◌}
 use Rattle.tv_journal.specs.declared.Entry.TheVariants as entry
-use Rattle.tv_runner.proofs.Events.{tick-part, tick-answered, kept-all}
+use Rattle.tv_runner.proofs.Events.{tick-full, tick-part, tick-answered, kept-all}
 use Rattle.tv_runner.proofs.engine.Engine.tick.Goals as goal
+
+pub returns-then-not-has_room-clause-part : goal.returns-then-not-has_room-clause-part
+returns-then-not-has_room-clause-part c =
+    tick-full c.args.self.now.guest c.args.self.now.journal c.args.self.now.bytes.items c.requires.runs (sym c.has_room.ensures ∙ c.if-not-has_room.true)
 
 pub returns-clause-part : goal.returns-clause-part
 returns-clause-part c =

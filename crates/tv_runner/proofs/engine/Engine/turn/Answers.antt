@@ -1,4 +1,5 @@
 use Rattle.std.proofs.Common.{◌-◌, arith}
+use Rattle.tv_journal.specs.Journals.{record_limit}
 use Rattle.tv_spec.specs.Solo.{Solo, turn}
 use Rattle.tv_runner.specs.Parts.{Held, held}
 use Rattle.tv_runner.proofs.Bursts.{turn-parts}
@@ -11,14 +12,14 @@ loop-left-preserved c =
     let now : Held = held c.loop-left.self in
     let new : Held = held c.burst.new.self in
     let setup = old.guest.setup in
-    let room = old.journal.record_room in
+    let room = record_limit old.journal in
     let left = c.loop-left.left in
     let events = c.in-Ok.made in
     record {
       few = omega (arith, c.loop-left.invariant.few);
       on = on-part (turn setup room c.args.hart 64) (turn setup room c.args.hart left) (turn setup room c.args.hart (left - events))
-          (turn now.guest.setup now.journal.record_room c.args.hart events) old now new c.loop-left.invariant.on
-          (λ (solo : Solo). turn-parts setup now.guest.setup room now.journal.record_room c.args.hart left events (left - events) solo c.loop-left.invariant.on.setup c.loop-left.invariant.on.room (omega (arith, c.in-Ok.ensures.few)))
+          (turn now.guest.setup (record_limit now.journal) c.args.hart events) old now new c.loop-left.invariant.on
+          (λ (solo : Solo). turn-parts setup now.guest.setup room (record_limit now.journal) c.args.hart left events (left - events) solo c.loop-left.invariant.on.setup c.loop-left.invariant.on.room (omega (arith, c.in-Ok.ensures.few)))
           c.in-Ok.ensures.part;
       within = record {
         entries = omega (arith, c.loop-left.invariant.within.entries, c.in-Ok.ensures.within.entries);
@@ -36,11 +37,11 @@ returns-in-Err-clause-part c =
     let now : Held = held c.loop-left.self in
     let new : Held = held c.burst.new.self in
     let setup = old.guest.setup in
-    let room = old.journal.record_room in
+    let room = record_limit old.journal in
     let left = c.loop-left.left in
     on-stop (turn setup room c.args.hart 64) (turn setup room c.args.hart left) (turn setup room c.args.hart 0)
-    (turn now.guest.setup now.journal.record_room c.args.hart left) old now new c.in-Err.stop c.loop-left.invariant.on
-    (λ (solo : Solo). turn-parts setup now.guest.setup room now.journal.record_room c.args.hart left left 0 solo c.loop-left.invariant.on.setup c.loop-left.invariant.on.room (omega arith))
+    (turn now.guest.setup (record_limit now.journal) c.args.hart left) old now new c.in-Err.stop c.loop-left.invariant.on
+    (λ (solo : Solo). turn-parts setup now.guest.setup room (record_limit now.journal) c.args.hart left left 0 solo c.loop-left.invariant.on.setup c.loop-left.invariant.on.room (omega arith))
     c.in-Err.ensures.0
 
 pub returns-clause-part : goal.returns-clause-part
@@ -48,7 +49,7 @@ returns-clause-part c =
     let old : Held = held c.args.self.now in
     let now : Held = held c.loop-left.self in
     let setup = old.guest.setup in
-    let room = old.journal.record_room in
+    let room = record_limit old.journal in
     let left = c.loop-left.left in
     on-end (turn setup room c.args.hart 64) (turn setup room c.args.hart left) old now c.loop-left.invariant.on
     (λ (solo : Solo). turn-over setup room c.args.hart left solo (omega (arith, c.loop-left-test.false)))

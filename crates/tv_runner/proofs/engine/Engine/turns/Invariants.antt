@@ -1,4 +1,5 @@
 use Rattle.std.specs.Prelude.{◌-◌, ◌*◌, None}
+use Rattle.tv_journal.specs.Journals.{record_limit}
 use Rattle.tv_spec.specs.Solo.{turns}
 use Rattle.tv_runner.proofs.On.{IsOn}
 use Rattle.tv_runner.specs.Parts.{Held, held, IsWithin}
@@ -10,7 +11,7 @@ invariant-loop-number l =
     let old : Held = held l.fn.self in
     let now : Held = held l.self in
     let setup = l.fn.self.guest.setup in
-    let room = l.fn.self.journal.record_room in
+    let room = record_limit l.fn.self.journal in
     record {
       on : IsOn (turns setup room 0 setup.harts) (turns setup room l.number (setup.harts - l.number)) old now;
       within : IsWithin (l.number * 64) old now None;
