@@ -25,7 +25,7 @@ StepsOften old new entry count (Ok _) = AreMade old new (replicate count (made e
 StepsOften old new entry count (Err step_fault.Illegal) = StopsAmong old entry count
 StepsOften old new entry count (Err step_fault.Memory) = Unit {0}
 
--- the entries of the record behind so many, by the answer to them: how many they are, or why one of them was not made
+-- an answer that says how many entries were made, without that number, and with no other than this one
 abbrev pub without_count : Result ℕ StepFault → Result ⊤ StepFault
 without_count (Ok count) = Ok tt
 without_count (Err fault) = Err fault
@@ -34,6 +34,7 @@ abbrev pub HasCount : ℕ → Result ℕ StepFault → Type 0
 HasCount count (Ok n) = n ≡ count
 HasCount count (Err fault) = Unit {0}
 
+-- the entries of the record behind so many, by the answer to them: how many they are, or why one of them was not made
 pub record StepsNext (records : List Record) (at later : ℕ) (old new : GuestState) (result : Result ℕ StepFault) : Type 0 where
   pub entry : Entry
   pub count : ℕ

@@ -61,8 +61,8 @@ pub fn replay(
     Ok(Replayed::Legal(monitor.status()))
 }
 
-/// Makes the entries of the record behind the cursor; how many they are. Events and ticks, which most records are, are
-/// asked for first, since an entry of any kind takes a piece's room.
+/// Makes the entries of the record behind the cursor, and answers how many they are. It asks for a run of events first, and
+/// then for a tick: most records are these, and an entry of any kind is as large as its longest payload.
 #[inline(always)]
 fn step_next(
     monitor: &mut Monitor,
@@ -81,7 +81,7 @@ fn step_next(
     }
 }
 
-/// The same where it is no record of events.
+/// The same, by a tick first.
 #[inline(always)]
 fn step_other(
     monitor: &mut Monitor,
@@ -100,7 +100,7 @@ fn step_other(
     }
 }
 
-/// The same of any record.
+/// The same, by an entry of any kind.
 fn step_any(monitor: &mut Monitor, journal: &Journal, cursor: &mut Cursor) -> Result<u32, StepFault>
     requires { cursor.old < length (records_of journal.now.entries) }
     ensures { StepsNext (records_of journal.now.entries) cursor.old cursor.new monitor.old.guest monitor.new.guest result }
