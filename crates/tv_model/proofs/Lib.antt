@@ -1,7 +1,9 @@
-pub mod AtOnce
-pub mod Bursts
+pub mod Dues
+pub mod Events
 pub mod First
-pub mod States
-pub mod Stepping
+pub mod Keeping
 pub mod Played
-pub mod Quiet
+pub mod Rooms
+pub mod Stepping
+pub mod Steps
+pub mod Taken

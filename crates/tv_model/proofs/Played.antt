@@ -20,25 +20,26 @@ use Rattle.tv_spec.specs.Setup.{Setup, setup_of}
 use Rattle.tv_spec.specs.State.{State, first_state}
 use Rattle.tv_spec.specs.Step.{Move, made, ended, Can}
 use Rattle.tv_spec.proofs.Moves.{after-append, legal-append}
-use Rattle.tv_model.specs.declared.monitor.StepFault.{StepFault}
-use Rattle.tv_model.specs.Guest.{state_of, AreMade, IsFirst}
-use Rattle.tv_model.specs.GuestState.{GuestState}
+use Rattle.tv_model.specs.declared.fault.StepFault.{StepFault}
+use Rattle.tv_model.specs.Monitor.{IsFirst}
+use Rattle.tv_model.specs.Moves.{AreMade}
+use Rattle.tv_model.specs.MonitorState.{MonitorState, setup_in, state_in}
 use Rattle.tv_model.specs.Monitor.{status_of}
 use Rattle.tv_model.specs.Replay.{IsFirstIllegal, IsLegalWith, IsRecordOf, entry_count, state_after}
 use Rattle.tv_model.specs.Replaying.{StepsNext, StepsOften, StopsAmong, HasLeft, IsDueTooLate, due, not_due, closer}
 use Rattle.tv_model.proofs.Stepping.{at_same, count-append, count-replicate, count-due, with-due, with-front, IsAtBorder, border-first, border-due, border-end, border-place, border-closer, left-of-border, entries-parts}
 
 -- a front of the moves was made: those of the first n records, and the outer end if it isn't still to come
-pub record IsPlayed (machine : Machine) (image : List ℕ) (entries : List Entry) (outer : Option (ℕ × Why)) (now : GuestState) (n : ℕ) (left : Option (ℕ × Why)) : Type 0 where
+pub record IsPlayed (machine : Machine) (image : List ℕ) (entries : List Entry) (outer : Option (ℕ × Why)) (now : MonitorState) (n : ℕ) (left : Option (ℕ × Why)) : Type 0 where
   pub front : List Move
   pub parts : with_outer entries outer ≡ front ++ with_outer (entries_of (drop n (records_of entries))) left
   pub legal : IsLegal (setup_of machine) (first_state machine image) front
-  pub setup : now.setup ≡ setup_of machine
-  pub state : state_of now ≡ state_after machine image front
+  pub setup : (setup_in now) ≡ setup_of machine
+  pub state : state_in now ≡ state_after machine image front
   pub count : entry_count front ≡ length (entries_of (take n (records_of entries)))
   pub border : IsAtBorder (drop n (records_of entries)) left
 
-pub played-first : (machine : Machine) (image : List ℕ) (entries : List Entry) (outer : Option (ℕ × Why)) (now : GuestState) → IsFirst now machine image → IsOuterEnd entries outer
+pub played-first : (machine : Machine) (image : List ℕ) (entries : List Entry) (outer : Option (ℕ × Why)) (now : MonitorState) → IsFirst now machine image → IsOuterEnd entries outer
     → IsPlayed machine image entries outer now 0 outer
 played-first machine image entries outer now first end = record {
   front = [];
@@ -51,28 +52,28 @@ played-first machine image entries outer now first end = record {
 }
 
 -- moves more
-played-more : (machine : Machine) (image : List ℕ) (entries : List Entry) (outer : Option (ℕ × Why)) (now next : GuestState) (n m : ℕ) (left later : Option (ℕ × Why)) (moves : List Move)
+played-more : (machine : Machine) (image : List ℕ) (entries : List Entry) (outer : Option (ℕ × Why)) (now next : MonitorState) (n m : ℕ) (left later : Option (ℕ × Why)) (moves : List Move)
     → IsPlayed machine image entries outer now n left → AreMade now next moves
     → with_outer (entries_of (drop n (records_of entries))) left ≡ moves ++ with_outer (entries_of (drop m (records_of entries))) later
     → length (entries_of (take n (records_of entries))) + entry_count moves ≡ length (entries_of (take m (records_of entries)))
     → IsAtBorder (drop m (records_of entries)) later → IsPlayed machine image entries outer next m later
 played-more machine image entries outer now next n m left later moves played more parts count border =
     let legal : IsLegal (setup_of machine) (state_after machine image played.front) moves =
-    at_same (λ setup s. IsLegal setup s moves) now.setup (setup_of machine) (state_of now) (state_after machine image played.front) played.setup played.state more.legal in
+    at_same (λ setup s. IsLegal setup s moves) (setup_in now) (setup_of machine) (state_in now) (state_after machine image played.front) played.setup played.state more.legal in
     let rest = with_outer (entries_of (drop m (records_of entries))) later in
     record {
       front = played.front ++ moves;
       parts = played.parts ∙ ap (λ (ms : List Move). played.front ++ ms) parts ∙ sym (append_assoc played.front moves rest);
       legal = legal-append (setup_of machine) (first_state machine image) played.front moves played.legal legal;
       setup = more.setup ∙ played.setup;
-      state = more.state ∙ ap (λ (setup : Setup). after setup (state_of now) moves) played.setup ∙ ap (λ (s : State). after (setup_of machine) s moves) played.state
+      state = more.state ∙ ap (λ (setup : Setup). after setup (state_in now) moves) played.setup ∙ ap (λ (s : State). after (setup_of machine) s moves) played.state
           ∙ sym (after-append (setup_of machine) (first_state machine image) played.front moves);
       count = count-append played.front moves ∙ ap (λ (k : ℕ). k + entry_count moves) played.count ∙ count;
       border = border;
     }
 
 -- an outer end that is due
-pub played-due : (machine : Machine) (image : List ℕ) (entries : List Entry) (outer : Option (ℕ × Why)) (now next : GuestState) (n : ℕ) (left : Option (ℕ × Why))
+pub played-due : (machine : Machine) (image : List ℕ) (entries : List Entry) (outer : Option (ℕ × Why)) (now next : MonitorState) (n : ℕ) (left : Option (ℕ × Why))
     → IsPlayed machine image entries outer now n left → AreMade now next (due left) → IsPlayed machine image entries outer next n (not_due left)
 played-due machine image entries outer now next n left played more =
     played-more machine image entries outer now next n n left (not_due left) (due left) played more (with-due _ left)
@@ -147,7 +148,7 @@ parts-next rs n count e outer next border =
     ∙ ap (λ (ms : List Move). ms ++ with_outer more (closer (length (replicate count e)) (not_due outer))) (map-replicate count e)
     ∙ ap (λ (k : ℕ). replicate count (made e) ++ with_outer more (closer k (not_due outer))) long
 
-pub played-record : (machine : Machine) (image : List ℕ) (entries : List Entry) (outer : Option (ℕ × Why)) (now next : GuestState) (n count : ℕ) (e : Entry) (left : Option (ℕ × Why))
+pub played-record : (machine : Machine) (image : List ℕ) (entries : List Entry) (outer : Option (ℕ × Why)) (now next : MonitorState) (n count : ℕ) (e : Entry) (left : Option (ℕ × Why))
     → IsPlayed machine image entries outer now n (not_due left) → IsNext (records_of entries) n e count → AreMade now next (replicate count (made e))
     → IsPlayed machine image entries outer next (n + 1) (closer count (not_due left))
 played-record machine image entries outer now next n count e left played found more =
@@ -159,7 +160,7 @@ played-record machine image entries outer now next n count e left played found m
     (subst (λ (rs : List Record). IsAtBorder rs (not_due left)) (drop-next (records_of entries) n count e found) played.border)))
 
 -- an entry of a record may not stand
-pub entry-illegal : (machine : Machine) (image : List ℕ) (entries : List Entry) (outer : Option (ℕ × Why)) (now : GuestState) (n count : ℕ) (e : Entry) (left : Option (ℕ × Why))
+pub entry-illegal : (machine : Machine) (image : List ℕ) (entries : List Entry) (outer : Option (ℕ × Why)) (now : MonitorState) (n count : ℕ) (e : Entry) (left : Option (ℕ × Why))
     → IsPlayed machine image entries outer now n (not_due left) → IsNext (records_of entries) n e count → StopsAmong now e count → IsFirstIllegal machine image entries outer n
 entry-illegal machine image entries outer now n count e left played found stops =
     let rest = with_outer (entries_of (drop (n + 1) (records_of entries))) (closer count (not_due left)) in
@@ -169,9 +170,9 @@ entry-illegal machine image entries outer now n count e left played found stops 
     let split : replicate count (made e) ≡ moves ++ made e ∷ replicate k (made e) =
     ap (λ (m : ℕ). replicate m (made e)) count_is ∙ sym (replicate-append-replicate stops.times (suc k) (made e)) in
     let legal : IsLegal (setup_of machine) (state_after machine image played.front) moves =
-    at_same (λ setup s. IsLegal setup s moves) now.setup (setup_of machine) (state_of now) (state_after machine image played.front) played.setup played.state stops.legal in
+    at_same (λ setup s. IsLegal setup s moves) (setup_in now) (setup_of machine) (state_in now) (state_after machine image played.front) played.setup played.state stops.legal in
     let cannot : Can (setup_of machine) (after (setup_of machine) (state_after machine image played.front) moves) (made e) → ⊥ =
-    at_same (λ setup s. Can setup (after setup s moves) (made e) → ⊥) now.setup (setup_of machine) (state_of now) (state_after machine image played.front) played.setup played.state stops.cannot in
+    at_same (λ setup s. Can setup (after setup s moves) (made e) → ⊥) (setup_in now) (setup_of machine) (state_in now) (state_after machine image played.front) played.setup played.state stops.cannot in
     let counted : entry_count (played.front ++ moves) ≡ length (entries_of (take n (records_of entries))) + stops.times =
     count-append played.front moves ∙ ap (λ (m : ℕ). m + entry_count moves) played.count
     ∙ ap (λ (m : ℕ). length (entries_of (take n (records_of entries))) + m) (count-replicate stops.times e) in
@@ -198,7 +199,7 @@ front-of-entries entries n =
     ap (λ (es : List Entry). take (length front) es) (sym (entries-again entries) ∙ sym (entries-parts n (records_of entries)))
     ∙ take-append_seam front (entries_of (drop n (records_of entries)))
 
-pub end-illegal : (machine : Machine) (image : List ℕ) (entries : List Entry) (outer : Option (ℕ × Why)) (now : GuestState) (n : ℕ) (left : Option (ℕ × Why))
+pub end-illegal : (machine : Machine) (image : List ℕ) (entries : List Entry) (outer : Option (ℕ × Why)) (now : MonitorState) (n : ℕ) (left : Option (ℕ × Why))
     → IsPlayed machine image entries outer now n left → n ≤ record_count entries → IsDueTooLate now left → IsFirstIllegal machine image entries outer n
 end-illegal machine image entries outer now n left played within late =
     let es = entries_of (drop n (records_of entries)) in
@@ -208,7 +209,7 @@ end-illegal machine image entries outer now n left played within late =
       rest = map made es;
       parts = played.parts ∙ ap (λ (left : Option (ℕ × Why)). played.front ++ with_outer es left) late.due;
       legal = played.legal;
-      cannot = at_same (λ setup s. Can setup s (ended late.cause) → ⊥) now.setup (setup_of machine) (state_of now) (state_after machine image played.front) played.setup played.state late.cannot;
+      cannot = at_same (λ setup s. Can setup s (ended late.cause) → ⊥) (setup_in now) (setup_of machine) (state_in now) (state_after machine image played.front) played.setup played.state late.cannot;
       number =
           sym (ap (λ (k : ℕ). record_count (take k entries)) played.count ∙ ap record_count (front-of-entries entries n) ∙ count-of-front entries n within);
     }
@@ -222,9 +223,9 @@ no-more entries = none-behind (records_of entries)
     none-behind [] = refl
     none-behind (r ∷ rs) = none-behind rs
 
-pub all-legal : (machine : Machine) (image : List ℕ) (entries : List Entry) (outer left : Option (ℕ × Why)) (now : GuestState) → IsOuterEnd entries outer
+pub all-legal : (machine : Machine) (image : List ℕ) (entries : List Entry) (outer left : Option (ℕ × Why)) (now : MonitorState) → IsOuterEnd entries outer
     → IsAtBorder (drop (record_count entries) (records_of entries)) left
-    → IsPlayed machine image entries outer now (record_count entries) (not_due left) → IsLegalWith machine image entries outer (status_of now.mode)
+    → IsPlayed machine image entries outer now (record_count entries) (not_due left) → IsLegalWith machine image entries outer (status_of now.guest.mode)
 all-legal machine image entries outer left now end border played =
     let nothing : with_outer (entries_of (drop (record_count entries) (records_of entries))) (not_due left) ≡ [] =
     ap (λ (rs : List Record). with_outer (entries_of rs) (not_due left)) (no-more entries) ∙ border-end left (subst (λ (rs : List Record). IsAtBorder rs left) (no-more entries) border) in
@@ -262,7 +263,7 @@ pub tick-found : (rs : List Record) (at later n : ℕ) → ◌≡◌ {A = Option
 tick-found rs at later n is = tick-as-record at later n (slice_get rs at) is
 
 -- a run of which an event was not made
-pub run-stops : (rs : List Record) (at later : ℕ) (old new : GuestState) (run : ℕ × ℕ) (fault : StepFault) → ◌≡◌ {A = Option (ℕ × ℕ) × ℕ} (Some run, later) (next_run rs at)
+pub run-stops : (rs : List Record) (at later : ℕ) (old new : MonitorState) (run : ℕ × ℕ) (fault : StepFault) → ◌≡◌ {A = Option (ℕ × ℕ) × ℕ} (Some run, later) (next_run rs at)
     → StepsOften old new (entry.Hart run.0) run.1 (Err fault) → StepsNext rs at later old new (Err fault)
 run-stops rs at later old new run fault is steps = record {
   entry = entry.Hart run.0;

@@ -16,9 +16,9 @@ use Rattle.tv_spec.specs.Setup.{Setup, setup_of}
 use Rattle.tv_spec.specs.State.{State, first_state}
 use Rattle.tv_spec.specs.Step.{Move, made, ended}
 use Rattle.tv_spec.proofs.Moves.{after-append, legal-append, legal-parts}
-use Rattle.tv_model.specs.Burst.{events_of}
-use Rattle.tv_model.specs.Guest.{state_of, AreMade, IsMade}
-use Rattle.tv_model.specs.GuestState.{GuestState}
+use Rattle.tv_guest.specs.Burst.{events_of}
+use Rattle.tv_model.specs.Moves.{AreMade, IsMade}
+use Rattle.tv_model.specs.MonitorState.{MonitorState, setup_in, state_in}
 use Rattle.tv_model.specs.Replay.{IsFirstIllegal, entry_count}
 use Rattle.tv_model.specs.Replaying.{HasCause, HasLeft, due, not_due, closer}
 
@@ -35,22 +35,22 @@ pub at_same : (P : Setup → State → Type 0) (a b : Setup) (s t : State) → a
 at_same P a b s t setup state is = subst (λ (x : Setup). P x t) setup (subst (λ (y : State). P a y) state is)
 
 -- moves made, one after the other
-pub made-one : (old new : GuestState) (move : Move) → IsMade old new move → AreMade old new (move ∷ [])
+pub made-one : (old new : MonitorState) (move : Move) → IsMade old new move → AreMade old new (move ∷ [])
 made-one old new move is = record { legal = (is.can, tt); setup = is.setup; state = is.state }
 
-pub made-append : (old mid new : GuestState) (first rest : List Move) → AreMade old mid first → AreMade mid new rest → AreMade old new (first ++ rest)
+pub made-append : (old mid new : MonitorState) (first rest : List Move) → AreMade old mid first → AreMade mid new rest → AreMade old new (first ++ rest)
 made-append old mid new first rest before more =
-    let legal : IsLegal old.setup (after old.setup (state_of old) first) rest =
-    at_same (λ setup s. IsLegal setup s rest) mid.setup old.setup (state_of mid) (after old.setup (state_of old) first) before.setup before.state more.legal in
+    let legal : IsLegal (setup_in old) (after (setup_in old) (state_in old) first) rest =
+    at_same (λ setup s. IsLegal setup s rest) (setup_in mid) (setup_in old) (state_in mid) (after (setup_in old) (state_in old) first) before.setup before.state more.legal in
     record {
-      legal = legal-append old.setup (state_of old) first rest before.legal legal;
+      legal = legal-append (setup_in old) (state_in old) first rest before.legal legal;
       setup = more.setup ∙ before.setup;
-      state = more.state ∙ ap (λ (setup : Setup). after setup (state_of mid) rest) before.setup ∙ ap (λ (s : State). after old.setup s rest) before.state
-          ∙ sym (after-append old.setup (state_of old) first rest);
+      state = more.state ∙ ap (λ (setup : Setup). after setup (state_in mid) rest) before.setup ∙ ap (λ (s : State). after (setup_in old) s rest) before.state
+          ∙ sym (after-append (setup_in old) (state_in old) first rest);
     }
 
 -- an entry once more
-pub made-again : (old mid new : GuestState) (e : Entry) (n : ℕ) → AreMade old mid (replicate n (made e)) → IsMade mid new (made e) → AreMade old new (replicate (n + 1) (made e))
+pub made-again : (old mid new : MonitorState) (e : Entry) (n : ℕ) → AreMade old mid (replicate n (made e)) → IsMade mid new (made e) → AreMade old new (replicate (n + 1) (made e))
 made-again old mid new e n before more =
     subst (AreMade old new) (sym (replicate_next n (made e))) (made-append old mid new (replicate n (made e)) (made e ∷ []) before (made-one mid new (made e) more))
 
@@ -154,7 +154,7 @@ border-place rs (Some (place, cause)) border =
     omega (arith, border.place_is)
 
 -- events of a hart, and more of them
-pub made-events : (old mid new : GuestState) (hart n more total : ℕ) → AreMade old mid (events_of hart n) → AreMade mid new (events_of hart more) → total ≡ n + more → AreMade old new (events_of hart total)
+pub made-events : (old mid new : MonitorState) (hart n more total : ℕ) → AreMade old mid (events_of hart n) → AreMade mid new (events_of hart more) → total ≡ n + more → AreMade old new (events_of hart total)
 made-events old mid new hart n more total before later total_is =
     let all : events_of hart n ++ events_of hart more ≡ events_of hart total =
     replicate-append-replicate n more (made (entry.Hart hart)) ∙ ap (events_of hart) (sym total_is) in

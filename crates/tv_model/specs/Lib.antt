@@ -1,7 +1,7 @@
-pub mod Burst
-pub mod Guest
-pub mod GuestState
 pub mod Monitor
 pub mod MonitorState
+pub mod Moves
+pub mod Parts
 pub mod Replay
 pub mod Replaying
+pub mod Slots

@@ -7,20 +7,20 @@ use Rattle.tv_journal.specs.Grammar.{cause_byte}
 use Rattle.tv_journal.specs.Journals.{next_record}
 use Rattle.tv_spec.specs.Legal.{IsLegal, after}
 use Rattle.tv_spec.specs.Step.{Move, made, ended, Can}
-use Rattle.tv_model.specs.declared.monitor.StepFault.{StepFault}
-use Rattle.tv_model.specs.declared.monitor.StepFault.TheVariants as step_fault
-use Rattle.tv_model.specs.Guest.{state_of, AreMade}
-use Rattle.tv_model.specs.GuestState.{GuestState}
+use Rattle.tv_model.specs.declared.fault.StepFault.{StepFault}
+use Rattle.tv_model.specs.declared.fault.StepFault.TheVariants as step_fault
+use Rattle.tv_model.specs.Moves.{AreMade}
+use Rattle.tv_model.specs.MonitorState.{MonitorState, setup_in, state_in}
 
 -- an entry was made a few times, and may not stand once more
-pub record StopsAmong (old : GuestState) (entry : Entry) (count : ℕ) : Type 0 where
+pub record StopsAmong (old : MonitorState) (entry : Entry) (count : ℕ) : Type 0 where
   pub times : ℕ
   pub few : times < count
-  pub legal : IsLegal old.setup (state_of old) (replicate times (made entry))
-  pub cannot : ¬ Can old.setup (after old.setup (state_of old) (replicate times (made entry))) (made entry)
+  pub legal : IsLegal (setup_in old) (state_in old) (replicate times (made entry))
+  pub cannot : ¬ Can (setup_in old) (after (setup_in old) (state_in old) (replicate times (made entry))) (made entry)
 
 -- an entry so often, by the answer to it
-abbrev pub StepsOften : GuestState → GuestState → Entry → ℕ → Result ⊤ StepFault → Type 0
+abbrev pub StepsOften : MonitorState → MonitorState → Entry → ℕ → Result ⊤ StepFault → Type 0
 StepsOften old new entry count (Ok _) = AreMade old new (replicate count (made entry))
 StepsOften old new entry count (Err step_fault.Illegal) = StopsAmong old entry count
 StepsOften old new entry count (Err step_fault.Memory) = Unit {0}
@@ -35,7 +35,7 @@ HasCount count (Ok n) = n ≡ count
 HasCount count (Err fault) = Unit {0}
 
 -- the entries of the record behind so many, by the answer to them: how many they are, or why one of them was not made
-pub record StepsNext (records : List Record) (at later : ℕ) (old new : GuestState) (result : Result ℕ StepFault) : Type 0 where
+pub record StepsNext (records : List Record) (at later : ℕ) (old new : MonitorState) (result : Result ℕ StepFault) : Type 0 where
   pub entry : Entry
   pub count : ℕ
   pub next : ◌≡◌ {A = Option (Entry × ℕ) × ℕ} (Some (entry, count), later) (next_record records at)
@@ -60,13 +60,13 @@ not_due (Some (zero, cause)) = None
 not_due (Some (suc n, cause)) = Some (suc n, cause)
 
 -- the outer end is due, and may not stand
-pub record IsDueTooLate (old : GuestState) (outer : Option (ℕ × Why)) : Type 0 where
+pub record IsDueTooLate (old : MonitorState) (outer : Option (ℕ × Why)) : Type 0 where
   pub cause : Why
   pub due : outer ≡ Some (0, cause)
-  pub cannot : ¬ Can old.setup (state_of old) (ended cause)
+  pub cannot : ¬ Can (setup_in old) (state_in old) (ended cause)
 
 -- an outer end that is due, by the answer to it
-abbrev pub EndsDue : GuestState → GuestState → Option (ℕ × Why) → Option (ℕ × Why) → Bool → Type 0
+abbrev pub EndsDue : MonitorState → MonitorState → Option (ℕ × Why) → Option (ℕ × Why) → Bool → Type 0
 EndsDue old new outer later true = AreMade old new (due outer) × (later ≡ not_due outer)
 EndsDue old new outer later false = IsDueTooLate old outer
 

@@ -1,15 +1,15 @@
 //! The in-process monitor: it makes the entries of a journal one after the other, and refuses what has no step.
 #![tactic(auto)]
 
-mod burst;
-mod guest;
-mod local;
+mod fault;
+mod fits;
 mod monitor;
+mod parts;
 mod replays;
-mod reservations;
+mod slot;
 
-pub use guest::Guest;
-pub use monitor::{Monitor, StepFault, exit_status};
+pub use fault::StepFault;
+pub use monitor::{Monitor, exit_status};
 pub use replays::{Replayed, no_legal_run_is_refused, replay};
 
 #[cfg(test)]

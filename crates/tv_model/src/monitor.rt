@@ -1,113 +1,97 @@
 //! The in-process monitor, which makes the entries of a run one after the other.
 
-ghost use Rattle.std.specs.Prelude.{◌≡◌, ◌≢◌, ◌<◌, ◌≤◌, ◌+◌, ◌++◌, None, [], IfOk, length, vec_len, vec_capacity};
-ghost use Rattle.tv_spec.specs.Shows.{byte_shown, exit_status};
+ghost use Rattle.std.specs.Prelude.{◌≡◌, ◌≢◌, ◌<◌, ◌≤◌, None, IfOk, length, map};
 ghost use Rattle.tv_journal.specs.Grammar.{cause_byte};
 ghost use Rattle.tv_machine.specs.Valid.{IsValid};
-ghost use Rattle.tv_model.specs.Guest.{IsFirst};
-ghost use Rattle.tv_model.specs.Monitor.{StepsSo, BurstsSo, EndsSo, status_of};
+ghost use Rattle.tv_spec.specs.Shows.{exit_status};
+ghost use Rattle.tv_spec.specs.State.{first_run};
+ghost use Rattle.tv_model.specs.Monitor.{AreDevices, BurstsSo, EndsSo, IsFirst, IsMonitor, StepsSo, status_of};
+ghost use Rattle.tv_model.specs.Parts.{run_of, seen};
 
-use crate::guest::Guest;
+use crate::fault::StepFault;
+use crate::parts::Parts;
+use crate::slot::Slot;
 use std::alloc::Global;
 use std::marker::Model;
 use tv_base::{HartNo, Memory, Why};
+use tv_grants::Grants;
+use tv_guest::Guest;
+use tv_items::Way;
 use tv_journal::Entry;
 use tv_machine::Machine;
-use tv_spec::{Mode, Shown};
+use tv_port::Device;
+use tv_spec::Mode;
 
-/// Why an entry was not made.
-#[derive(Clone, Copy, PartialEq, Eq)]
-pub enum StepFault {
-    /// The monitor has no such step.
-    Illegal,
-    /// Want of memory.
-    Memory,
-}
-
-/// The in-process monitor.
+/// The in-process monitor of a machine whose devices are of one type.
 #[derive(Drop)]
-pub struct Monitor {
-    guest: Guest,
-    console: Vec<u8>,
+pub struct Monitor<D: Device + Drop> {
+    alloc: Global,
+    parts: Parts<D>,
 }
 
-impl Model for Monitor {
+impl<D: Device + Drop> Model for Monitor<D> {
+    ghost use Rattle.tv_model.specs.Monitor.{IsMonitor};
     ghost use Rattle.tv_model.specs.MonitorState.{MonitorState};
+    ghost use Rattle.tv_model.specs.Parts.{seen};
 
     ghost Value = { MonitorState };
 
-    ghost view = { λ monitor. record { guest = monitor.guest; console = monitor.console.items } };
+    ghost view = { λ m. seen m.parts };
+
+    ghost invariant = { λ m. IsMonitor (seen m.parts) };
 }
 
-impl Monitor {
-    /// The monitor of a machine with an image of up to `ram` bytes, as a run begins.
+impl<D: Device + Drop> Monitor<D> {
+    /// The monitor of a machine with an image of up to `ram` bytes, as a run begins. The devices are those of the machine's
+    /// slots, in their order, each as a run begins; they are copied.
     ///
     /// # Errors
-    /// Want of memory.
-    pub fn new(alloc: Global, machine: &Machine, image: &[u8]) -> Result<Monitor, Memory>
+    /// Out of memory.
+    pub fn new(
+        alloc: Global,
+        machine: &Machine,
+        devices: &[D],
+        image: &[u8],
+    ) -> Result<Monitor<D>, Memory>
         requires valid { IsValid machine.now }
+        requires devices { AreDevices machine.now (map D.state devices.now) }
         requires fits { length image.now ≤ machine.now.ram }
-        ensures first { IfOk result (λ monitor. IsFirst monitor.guest machine.now image.now) }
-        ensures console { IfOk result (λ monitor. monitor.console ≡ []) }
+        ensures { IfOk result (λ monitor. IsFirst monitor machine.now image.now) }
     {
-        Ok(Monitor {
-            guest: Guest::new(alloc, machine, image)?,
+        let guest = Guest::new(alloc, machine, image)?;
+        let grants = Grants::of_machine(alloc, machine)?;
+        let slots = slots_of(alloc, devices)?;
+        let parts = Parts {
+            guest,
+            grants,
+            slots,
+            pending: [None; 8],
+            ticked: false,
             console: Vec::new(alloc),
-        })
+        };
+        Ok(Monitor { alloc, parts })
     }
 
-    /// Makes an entry. Nothing is changed where it isn't made.
+    /// Makes an entry.
     ///
     /// # Errors
-    /// `Illegal` exactly where the monitor has no such step, or want of memory.
+    /// `Illegal` exactly where the monitor has no such step, or out of memory. Nothing is changed then.
     pub fn step(&mut self, entry: &Entry) -> Result<(), StepFault>
         ensures { StepsSo self.old self.new entry.now result }
     {
-        match entry {
-            Entry::Hart(hart) => match self.burst(*hart, 1) {
-                Ok(_) => Ok(()),
-                Err(fault) => Err(fault),
-            },
-            Entry::Tick(n) => {
-                if self.guest.tick(*n) {
-                    Ok(())
-                } else {
-                    Err(StepFault::Illegal)
-                }
-            }
-            // No device is there yet.
-            Entry::Take(_)
-            | Entry::Send(_)
-            | Entry::ServeMem(_)
-            | Entry::ServeIrq(_)
-            | Entry::Got(_)
-            | Entry::Reply(_)
-            | Entry::Deliver(_)
-            | Entry::Intend(_)
-            | Entry::Did(_, _) => Err(StepFault::Illegal),
-        }
+        step(&mut self.parts, entry, self.alloc)
     }
 
     /// Makes a burst of up to `most` events of a hart, and answers how many they are, at least 1. They are fewer than `most`
-    /// only where a byte came to the console or one more may not stand. Nothing is changed where none is made.
+    /// only where the last one showed something, or the run ended.
     ///
     /// # Errors
-    /// `Illegal` exactly where the monitor has no such step, or want of memory.
+    /// `Illegal` exactly where the monitor has no such step, or out of memory. Nothing is changed then.
     pub fn burst(&mut self, hart: HartNo, most: u32) -> Result<u32, StepFault>
         requires { 0 < most }
         ensures { BurstsSo self.old self.new hart most result }
     {
-        // The byte that the last event may show gets its place first.
-        match self.console.reserve(1) {
-            Ok(()) => {}
-            Err(_) => return Err(StepFault::Memory),
-        }
-        let (made, shown) = self.guest.burst(hart, most);
-        if made == 0 {
-            return Err(StepFault::Illegal);
-        }
-        show(&mut self.console, shown);
-        Ok(made)
+        self.parts.burst(hart, most)
     }
 
     /// Makes an end that no entry made. False exactly where the run ended before; nothing is changed then.
@@ -115,39 +99,64 @@ impl Monitor {
         requires { cause_byte why ≢ None }
         ensures { EndsSo self.old self.new why result }
     {
-        self.guest.end(why)
+        self.parts.end(why)
     }
 
     /// The bytes at the debug port so far.
     pub fn console(&self) -> &[u8]
         ensures { result.now ≡ self.now.console }
     {
-        &self.console
+        &self.parts.console
     }
 
     /// The run's exit status; `None` exactly where it goes on.
     pub fn status(&self) -> Option<u8>
         ensures { result ≡ status_of self.now.guest.mode }
     {
-        match self.guest.mode() {
+        match self.parts.guest.mode() {
             Mode::Running => None,
             Mode::Ending(why) => Some(exit_status(why)),
         }
     }
 }
 
-/// Puts the byte that an event showed, if it showed one.
-fn show(console: &mut Vec<u8>, shown: Shown)
-    requires { vec_len console.old + 1 ≤ vec_capacity console.old }
-    ensures { console.new.items ≡ console.old.items ++ byte_shown shown }
+/// Makes an entry, by its kind.
+fn step<D: Device + Drop>(
+    parts: &mut Parts<D>,
+    entry: &Entry,
+    alloc: Global,
+) -> Result<(), StepFault>
+    requires monitor { IsMonitor (seen parts.old) }
+    ensures { StepsSo (seen parts.old) (seen parts.new) entry.now result }
 {
-    match shown {
-        Shown::Byte(byte) => match console.push(byte) {
-            Ok(()) => {}
-            Err(_) => unreachable!(),
+    match entry {
+        Entry::Hart(hart) => match parts.burst(*hart, 1) {
+            Ok(_) => Ok(()),
+            Err(fault) => Err(fault),
         },
-        Shown::Nothing | Shown::Finish(_) => {}
+        Entry::Take(dev) => parts.take(*dev, alloc),
+        Entry::Send(dev) => parts.send(*dev, alloc),
+        Entry::ServeMem(dev) => parts.serve(*dev, Way::Memory, alloc),
+        Entry::ServeIrq(dev) => parts.serve(*dev, Way::Interrupt, alloc),
+        Entry::Got(dev) => parts.get(*dev),
+        Entry::Reply(dev) => parts.reply(*dev),
+        Entry::Deliver(dev) => parts.deliver(*dev),
+        Entry::Intend(dev) => parts.intend(*dev, alloc),
+        Entry::Did(dev, heard) => parts.hear(*dev, heard, alloc),
+        Entry::Tick(n) => parts.tick(*n),
     }
+}
+
+/// These devices before their first items.
+fn slots_of<D: Device + Drop>(alloc: Global, devices: &[D]) -> Result<Vec<Slot<D>>, Memory>
+    ensures { IfOk result (λ slots. map run_of slots.items ≡ map first_run (map D.state devices.now)) }
+{
+    let mut slots = Vec::new(alloc);
+    for device in devices {
+        let copy = device.copy(alloc)?;
+        slots.push(Slot::new(alloc, copy)).map_err(|_| Memory)?;
+    }
+    Ok(slots)
 }
 
 /// The exit status of a run by the cause of its end.

@@ -1,20 +1,23 @@
 //! The replay of a journal: whether it is a legal run of a machine with an image.
 
-ghost use Rattle.std.specs.Prelude.{◌≡◌, ◌≤◌, ◌<◌, ℕ, List, Option, IfOk, length};
+ghost use Rattle.std.specs.Prelude.{◌≡◌, ◌≤◌, ◌<◌, ℕ, List, Option, IfOk, length, map};
 ghost use Rattle.tv_base.specs.declared.Why.{Why};
 ghost use Rattle.tv_journal.specs.declared.Entry.{Entry};
 ghost use Rattle.tv_journal.specs.Entries.{records_of};
 ghost use Rattle.tv_machine.specs.declared.machine.Machine.{Machine};
 ghost use Rattle.tv_machine.specs.Valid.{IsValid};
 ghost use Rattle.tv_spec.specs.Legal.{IsLegalRun};
+ghost use Rattle.tv_model.specs.Monitor.{AreDevices};
 ghost use Rattle.tv_model.specs.Replay.{IsFirstIllegal, ReplaysSo};
 ghost use Rattle.tv_model.specs.Replaying.{StepsNext, StepsOften, EndsDue, HasCause, HasLeft, closer};
 
-use crate::monitor::{Monitor, StepFault};
+use crate::fault::StepFault;
+use crate::monitor::Monitor;
 use std::alloc::Global;
 use tv_base::{HartNo, Memory, Why};
 use tv_journal::{Cursor, Entry, Journal};
 use tv_machine::Machine;
+use tv_port::Device;
 
 /// What a replay found.
 #[derive(Clone, Copy, Debug, PartialEq, Eq)]
@@ -27,21 +30,23 @@ pub enum Replayed {
 }
 
 /// Makes the entries of a journal one after the other, with the end that no event made at its place, on a machine with an
-/// image of up to `ram` bytes.
+/// image of up to `ram` bytes. The devices are those of the machine's slots, in their order, each as a run begins.
 ///
 /// # Errors
-/// Want of memory.
-pub fn replay(
+/// Out of memory.
+pub fn replay<D: Device + Drop>(
     alloc: Global,
     machine: &Machine,
+    devices: &[D],
     image: &[u8],
     journal: &Journal,
 ) -> Result<Replayed, Memory>
     requires valid { IsValid machine.now }
+    requires devices { AreDevices machine.now (map D.state devices.now) }
     requires fits { length image.now ≤ machine.now.ram }
     ensures { IfOk result (λ replayed. ReplaysSo machine.now image.now journal.now replayed) }
 {
-    let mut monitor = Monitor::new(alloc, machine, image)?;
+    let mut monitor = Monitor::new(alloc, machine, devices, image)?;
     let mut outer = journal.outer();
     let mut cursor = journal.cursor();
     let records = journal.records();
@@ -64,13 +69,13 @@ pub fn replay(
 /// Makes the entries of the record behind the cursor, and answers how many they are. It asks for a run of events first, and
 /// then for a tick: most records are these, and an entry of any kind is as large as its longest payload.
 #[inline(always)]
-fn step_next(
-    monitor: &mut Monitor,
+fn step_next<D: Device + Drop>(
+    monitor: &mut Monitor<D>,
     journal: &Journal,
     cursor: &mut Cursor,
 ) -> Result<u32, StepFault>
     requires { cursor.old < length (records_of journal.now.entries) }
-    ensures { StepsNext (records_of journal.now.entries) cursor.old cursor.new monitor.old.guest monitor.new.guest result }
+    ensures { StepsNext (records_of journal.now.entries) cursor.old cursor.new monitor.old monitor.new result }
 {
     match journal.next_events(cursor) {
         Some((hart, count)) => {
@@ -83,13 +88,13 @@ fn step_next(
 
 /// The same, by a tick first.
 #[inline(always)]
-fn step_other(
-    monitor: &mut Monitor,
+fn step_other<D: Device + Drop>(
+    monitor: &mut Monitor<D>,
     journal: &Journal,
     cursor: &mut Cursor,
 ) -> Result<u32, StepFault>
     requires { cursor.old < length (records_of journal.now.entries) }
-    ensures { StepsNext (records_of journal.now.entries) cursor.old cursor.new monitor.old.guest monitor.new.guest result }
+    ensures { StepsNext (records_of journal.now.entries) cursor.old cursor.new monitor.old monitor.new result }
 {
     match journal.next_tick(cursor) {
         Some(n) => {
@@ -101,9 +106,13 @@ fn step_other(
 }
 
 /// The same, by an entry of any kind.
-fn step_any(monitor: &mut Monitor, journal: &Journal, cursor: &mut Cursor) -> Result<u32, StepFault>
+fn step_any<D: Device + Drop>(
+    monitor: &mut Monitor<D>,
+    journal: &Journal,
+    cursor: &mut Cursor,
+) -> Result<u32, StepFault>
     requires { cursor.old < length (records_of journal.now.entries) }
-    ensures { StepsNext (records_of journal.now.entries) cursor.old cursor.new monitor.old.guest monitor.new.guest result }
+    ensures { StepsNext (records_of journal.now.entries) cursor.old cursor.new monitor.old monitor.new result }
 {
     let Some((entry, count)) = journal.next(cursor) else {
         unreachable!();
@@ -113,8 +122,12 @@ fn step_any(monitor: &mut Monitor, journal: &Journal, cursor: &mut Cursor) -> Re
 }
 
 /// Makes so many events of a hart.
-fn step_events(monitor: &mut Monitor, hart: HartNo, count: u32) -> Result<(), StepFault>
-    ensures { StepsOften monitor.old.guest monitor.new.guest (Entry.Hart hart) count result }
+fn step_events<D: Device + Drop>(
+    monitor: &mut Monitor<D>,
+    hart: HartNo,
+    count: u32,
+) -> Result<(), StepFault>
+    ensures { StepsOften monitor.old monitor.new (Entry.Hart hart) count result }
 {
     let mut left = count;
     while left > 0 {
@@ -125,8 +138,12 @@ fn step_events(monitor: &mut Monitor, hart: HartNo, count: u32) -> Result<(), St
 }
 
 /// Makes an entry so often, each time by itself.
-fn step_each(monitor: &mut Monitor, entry: &Entry, count: u32) -> Result<(), StepFault>
-    ensures { StepsOften monitor.old.guest monitor.new.guest entry.now count result }
+fn step_each<D: Device + Drop>(
+    monitor: &mut Monitor<D>,
+    entry: &Entry,
+    count: u32,
+) -> Result<(), StepFault>
+    ensures { StepsOften monitor.old monitor.new entry.now count result }
 {
     for _time in 0..count {
         monitor.step(entry)?;
@@ -135,9 +152,9 @@ fn step_each(monitor: &mut Monitor, entry: &Entry, count: u32) -> Result<(), Ste
 }
 
 /// Makes the outer end where no entry is left before it; false where it may not stand there.
-fn end_if_due(monitor: &mut Monitor, outer: &mut Option<(u64, Why)>) -> bool
+fn end_if_due<D: Device + Drop>(monitor: &mut Monitor<D>, outer: &mut Option<(u64, Why)>) -> bool
     requires { HasCause outer.old }
-    ensures { EndsDue monitor.old.guest monitor.new.guest outer.old outer.new result }
+    ensures { EndsDue monitor.old monitor.new outer.old outer.new result }
 {
     match *outer {
         Some((0, why)) => {

@@ -1,23 +1,28 @@
 //! Runs worked out by hand, and journals of them.
 
-ghost use Rattle.std.specs.Prelude.{◌≡◌, ◌≤◌, IfOk, length};
+ghost use Rattle.std.specs.Prelude.{◌≡◌, ◌≤◌, [], ◌∷◌, IfOk, length};
+ghost use Rattle.tv_journal.specs.Journals.{IsEntry};
 ghost use Rattle.tv_machine.specs.Valid.{IsValid};
+ghost use Rattle.tv_plan.specs.Devices.{DeviceState};
+ghost use Rattle.tv_plan.specs.Probe.{new_probe};
+ghost use Rattle.tv_model.specs.Monitor.{AreDevices};
 
-use super::local::Local;
 use super::{Monitor, Replayed, StepFault, replay};
 use std::alloc::Global;
 use std::process::Abort;
 use std::test::Fail;
-use tv_base::{DevNo, FLAT_RAM_BYTES, HartNo, Memory, Width};
+use tv_base::{DevNo, FLAT_RAM_BYTES, HartNo, Memory, PAGE_BYTES, RAM_BASE, Rights};
 use tv_fake::first_run::{IMAGE, JOURNAL};
-use tv_hart::{Loaded, Place, Stored};
-use tv_isa::AmoOp;
+use tv_items::Heard;
 use tv_journal::{Entry, Journal};
-use tv_machine::Machine;
-use tv_ram::Ram;
+use tv_machine::{DeviceKind, DeviceSpec, Machine, MemRange, RangeList};
+use tv_small::Probe;
 
 /// The image of one jump to itself.
 const LOOP: [u8; 4] = [0x6f, 0x00, 0x00, 0x00];
+
+/// The devices of a machine without devices.
+const NO_DEVICES: [Probe; 0] = [];
 
 /// Replays a journal file on the flat machine.
 fn replay_file(alloc: Global, image: &[u8], file: &[u8]) -> Result<Replayed, Fail>
@@ -29,7 +34,7 @@ fn replay_file(alloc: Global, image: &[u8], file: &[u8]) -> Result<Replayed, Fai
     let Ok(journal) = Journal::read_file(alloc, file) else {
         return Err(Fail::from("no journal file"));
     };
-    match replay(alloc, &machine, image, &journal) {
+    match replay(alloc, &machine, &NO_DEVICES, image, &journal) {
         Ok(replayed) => Ok(replayed),
         Err(_) => Err(Fail::from("memory")),
     }
@@ -41,7 +46,7 @@ fn first_image_is_stepped(rt: HostRuntime) -> Result<(), Fail> {
     let Ok(machine) = Machine::flat(alloc) else {
         return Err(Fail::from("memory"));
     };
-    let Ok(mut monitor) = Monitor::new(alloc, &machine, &IMAGE) else {
+    let Ok(mut monitor) = Monitor::new(alloc, &machine, &NO_DEVICES, &IMAGE) else {
         return Err(Fail::from("memory"));
     };
     let event = Entry::Hart(HartNo::new(0).expect(&rt, "a hart"));
@@ -140,122 +145,6 @@ fn journals_are_replayed(rt: HostRuntime) -> Result<(), Fail> {
     Ok(())
 }
 
-/// What a hart does with some bytes of memory.
-#[derive(Clone, Copy)]
-enum Act {
-    Store,
-    Amo,
-    Reserve,
-    Conditional,
-}
-
-/// Makes an access of the hart with this number, over these bytes; whether it was made and, where it is a conditional
-/// store, whether it was stored. What is written is 0x55 in the low byte and zeros above it.
-fn access(
-    rt: &impl Abort,
-    local: &mut Local,
-    (number, act, width, addr): (u8, Act, Width, u64),
-) -> bool {
-    let hart = HartNo::new(number).expect(rt, "a hart");
-    assert!(rt; addr % u64::from(width.bytes()) == 0);
-    if matches!(act, Act::Store) {
-        return matches!(local.store(hart, width, addr, 0x55), Stored::Done);
-    }
-    assert!(rt; matches!(width, Width::B4 | Width::B8));
-    match act {
-        Act::Store => false,
-        Act::Amo => local.amo(hart, width, addr, AmoOp::Or, 0).is_some(),
-        Act::Reserve => local.reserve(hart, width, addr).is_some(),
-        Act::Conditional => local.conditional(hart, width, addr, 0x55) == Some(true),
-    }
-}
-
-#[test]
-fn reservations_end_by_the_writes_of_others(rt: HostRuntime) -> Result<(), Fail> {
-    // Hart 0 has reserved the 8 bytes at 0x8000_0200. What is done then, and whether it may store to these bytes.
-    let rows: [((u8, Act, Width, u64), (Width, u64), bool); 15] = [
-        // A byte of another hart's in them; beside them; a number that stays the same.
-        ((1, Act::Store, Width::B1, 0x207), (Width::B8, 0x200), false),
-        ((1, Act::Store, Width::B1, 0x200), (Width::B8, 0x200), false),
-        ((1, Act::Store, Width::B1, 0x1ff), (Width::B8, 0x200), true),
-        ((1, Act::Store, Width::B1, 0x208), (Width::B8, 0x200), true),
-        ((7, Act::Amo, Width::B4, 0x204), (Width::B8, 0x200), false),
-        ((7, Act::Amo, Width::B8, 0x208), (Width::B8, 0x200), true),
-        // The hart's own writes.
-        ((0, Act::Store, Width::B8, 0x200), (Width::B8, 0x200), true),
-        ((0, Act::Amo, Width::B4, 0x200), (Width::B8, 0x200), true),
-        // Another hart's reservation, and its conditional store without one.
-        (
-            (1, Act::Reserve, Width::B8, 0x200),
-            (Width::B8, 0x200),
-            true,
-        ),
-        (
-            (1, Act::Conditional, Width::B8, 0x200),
-            (Width::B8, 0x200),
-            true,
-        ),
-        // The hart's own conditional store elsewhere, and a later reservation.
-        (
-            (0, Act::Conditional, Width::B8, 0x300),
-            (Width::B8, 0x200),
-            false,
-        ),
-        (
-            (0, Act::Reserve, Width::B4, 0x20c),
-            (Width::B8, 0x200),
-            false,
-        ),
-        (
-            (0, Act::Reserve, Width::B4, 0x20c),
-            (Width::B8, 0x208),
-            true,
-        ),
-        // A word of the 8 bytes, and the word after them.
-        ((0, Act::Store, Width::B8, 0x200), (Width::B4, 0x204), true),
-        ((0, Act::Store, Width::B8, 0x200), (Width::B4, 0x208), false),
-    ];
-    for (row, ((number, act, width, at), (wide, place), stored)) in rows.into_iter().enumerate() {
-        let mut local = Local::new(rt.alloc(), Ram::new(rt.alloc(), 0x1_0000)?, 8)?;
-        let base = 0x8000_0000;
-        assert!(rt; at < 0x400 && place < 0x400);
-        let reserved = (0, Act::Reserve, Width::B8, base + 0x200);
-        assert!(rt; access(&rt, &mut local, reserved), "row {row}");
-        access(&rt, &mut local, (number, act, width, base + at));
-        let last = (0, Act::Conditional, wide, base + place);
-        assert_eq!(rt; access(&rt, &mut local, last), stored, "row {row}");
-        assert!(rt; !access(&rt, &mut local, last), "row {row}");
-    }
-    Ok(())
-}
-
-#[test]
-fn a_refused_conditional_store_changes_no_memory(rt: HostRuntime) -> Result<(), Fail> {
-    let mut local = Local::new(rt.alloc(), Ram::new(rt.alloc(), 0x1_0000)?, 8)?;
-    let hart = HartNo::FIRST;
-    let base = 0x8000_0200;
-    access(&rt, &mut local, (0, Act::Reserve, Width::B8, base));
-    access(&rt, &mut local, (1, Act::Store, Width::B1, base + 7));
-    assert_eq!(rt;
-        local.conditional(hart, Width::B8, base, u64::MAX),
-        Some(false)
-    );
-    for (addr, held) in [(base - 8, 0), (base, 0x55 << 56), (base + 8, 0)] {
-        assert!(rt; addr % 8 == 0);
-        match local.load(hart, Width::B8, addr) {
-            Loaded::Value(value) => assert_eq!(rt; value, held),
-            Loaded::Held | Loaded::Full | Loaded::Nothing => assert!(rt; false),
-        }
-    }
-    // Beyond memory, and at a port, there is nothing to reserve.
-    for addr in [0x8001_0000, 0x0010_0000] {
-        assert!(rt; !access(&rt, &mut local, (0, Act::Reserve, Width::B4, addr)));
-        assert!(rt; !access(&rt, &mut local, (0, Act::Conditional, Width::B4, addr)));
-        assert!(rt; !access(&rt, &mut local, (0, Act::Amo, Width::B4, addr)));
-    }
-    Ok(())
-}
-
 /// Hart 0 reserves 8 bytes, counts down from 40, stores there where it still may, and puts the digit that says whether
 /// not. Hart 1 stores a byte there as its fourth instruction.
 const RESERVING: [u32; 14] = [
@@ -284,11 +173,20 @@ enum Turn {
 
 /// The flat machine with two harts.
 fn two_harts(alloc: Global) -> Result<Machine, Memory>
-    ensures { IfOk result (λ machine. (machine.ram ≡ FLAT_RAM_BYTES) × IsValid machine) }
+    ensures { IfOk result (λ machine. (machine.ram ≡ FLAT_RAM_BYTES) × (machine.device ≡ []) × IsValid machine) }
 {
     let mut machine = Machine::flat(alloc)?;
     machine.harts = 2;
     Ok(machine)
+}
+
+/// The image of these instructions.
+fn image_of(rt: &(impl AllocGlobal + Abort), words: &[u32]) -> Result<Vec<u8>, Fail> {
+    let mut image = Vec::new(rt.alloc());
+    for word in words {
+        image.extend_from_slice(&word.to_le_bytes())?;
+    }
+    Ok(image)
 }
 
 /// What two harts put to the console when they make these entries with an image.
@@ -297,12 +195,9 @@ fn console(
     words: &[u32],
     turns: &[Turn],
 ) -> Result<Vec<u8>, Fail> {
-    let mut image = Vec::new(rt.alloc());
-    for word in words {
-        image.extend_from_slice(&word.to_le_bytes())?;
-    }
+    let image = image_of(rt, words)?;
     assert!(rt; image.len() <= FLAT_RAM_BYTES as usize);
-    let mut monitor = Monitor::new(rt.alloc(), &two_harts(rt.alloc())?, &image)?;
+    let mut monitor = Monitor::new(rt.alloc(), &two_harts(rt.alloc())?, &NO_DEVICES, &image)?;
     for &turn in turns {
         let (entry, count) = match turn {
             Turn::Events(number, count) => {
@@ -372,16 +267,376 @@ fn rounds(rt: &(impl AllocGlobal + Abort), count: u32) -> Result<Journal, Fail> 
 }
 
 #[test]
-fn an_entry_of_a_device_is_refused_at_its_record(rt: HostRuntime) -> Result<(), Fail> {
+fn an_entry_of_a_device_that_is_not_there_is_refused(rt: HostRuntime) -> Result<(), Fail> {
     let machine = two_harts(rt.alloc())?;
     let mut journal = rounds(&rt, 3)?;
     assert_eq!(rt; (journal.records(), journal.events()), (9, 291));
-    let replayed = replay(rt.alloc(), &machine, &LOOP, &journal)?;
+    let replayed = replay(rt.alloc(), &machine, &NO_DEVICES, &LOOP, &journal)?;
     assert_eq!(rt; replayed, Replayed::Legal(None));
     let device = DevNo::new(0).expect(&rt, "a device");
     assert!(rt; journal.events() < 10000 && journal.outer().is_none());
     assert!(rt; journal.push(&Entry::Take(device)));
-    let replayed = replay(rt.alloc(), &machine, &LOOP, &journal)?;
+    let replayed = replay(rt.alloc(), &machine, &NO_DEVICES, &LOOP, &journal)?;
     assert_eq!(rt; replayed, Replayed::Illegal(9));
+    Ok(())
+}
+
+/// A guest that has the probe read 4 bytes at the start of memory, loads what it read, and puts the low byte: auipc x6, 0;
+/// lui x5, 0x10001; sd x6, 0(x5); addi x7, x0, 4; sw x7, 8(x5); addi x7, x0, 1; sw x7, 24(x5); ld x8, 16(x5);
+/// lui x9, 0x10000; sb x8, 0(x9); jal x0, 0. The eighth event is the load.
+const READING: [u32; 11] = [
+    0x00000317, 0x100012b7, 0x0062b023, 0x00400393, 0x0072a423, 0x00100393, 0x0072ac23, 0x0102b403,
+    0x100004b7, 0x00848023, 0x0000006f,
+];
+
+/// The same, with GO 3, which raises an interrupt, in the place of GO 1.
+const ALARMING: [u32; 11] = [
+    0x00000317, 0x100012b7, 0x0062b023, 0x00400393, 0x0072a423, 0x00300393, 0x0072ac23, 0x0102b403,
+    0x100004b7, 0x00848023, 0x0000006f,
+];
+
+/// The flat machine with two harts and one probe, which may read the first page of memory and has an interrupt source.
+fn with_probe(alloc: Global) -> Result<Machine, Memory>
+    ensures { IfOk result (λ machine. (machine.ram ≡ FLAT_RAM_BYTES) × AreDevices machine (DeviceState.Probe new_probe ∷ []) × IsValid machine) }
+{
+    let mut machine = two_harts(alloc)?;
+    let mut mem = RangeList::new();
+    let range = MemRange {
+        base: RAM_BASE,
+        len: PAGE_BYTES,
+        rights: Rights::READ,
+    };
+    mem.push(alloc, range)?;
+    let probe = DeviceSpec {
+        kind: DeviceKind::Probe,
+        mem,
+        irq: true,
+        disk: None,
+        readonly: false,
+        output: None,
+        input: None,
+        sectors: 0,
+    };
+    machine.device.push(alloc, probe)?;
+    Ok(machine)
+}
+
+/// A device as a run begins, for the one slot of that machine.
+fn first_probe(alloc: Global) -> [Probe; 1]
+    ensures { result ≡ new_probe ∷ [] }
+{
+    match Probe::new(alloc) {
+        Ok(probe) => [probe],
+        Err(_) => unreachable!(),
+    }
+}
+
+/// Entries in a row, of the first device where they are a device's.
+#[derive(Clone, Copy)]
+enum Move {
+    /// So many events of hart 0.
+    Events(u32),
+    /// So many of hart 1.
+    Others(u32),
+    Take,
+    Send,
+    ServeMem,
+    ServeIrq,
+    Got,
+    Reply,
+    Deliver,
+    Intend,
+    Did,
+    Tick,
+}
+
+/// The entry that is made, or the first of them.
+fn entry_of(rt: &impl Abort, made: Move) -> Entry
+    ensures { IsEntry result }
+{
+    let device = DevNo::new(0).expect(rt, "a device");
+    match made {
+        Move::Events(_) => Entry::Hart(HartNo::FIRST),
+        Move::Others(_) => Entry::Hart(HartNo::new(1).expect(rt, "a hart")),
+        Move::Take => Entry::Take(device),
+        Move::Send => Entry::Send(device),
+        Move::ServeMem => Entry::ServeMem(device),
+        Move::ServeIrq => Entry::ServeIrq(device),
+        Move::Got => Entry::Got(device),
+        Move::Reply => Entry::Reply(device),
+        Move::Deliver => Entry::Deliver(device),
+        Move::Intend => Entry::Intend(device),
+        Move::Did => Entry::Did(device, Heard::Done),
+        Move::Tick => Entry::Tick(64),
+    }
+}
+
+/// How many entries it is.
+fn times(made: Move) -> u32 {
+    match made {
+        Move::Events(count) | Move::Others(count) => count,
+        _ => 1,
+    }
+}
+
+/// A journal of these entries.
+fn journal_of(rt: &(impl AllocGlobal + Abort), moves: &[Move]) -> Result<Journal, Fail> {
+    let mut journal = Journal::new(rt.alloc(), 100, 0)?;
+    for &made in moves {
+        for _ in 0..times(made) {
+            assert!(rt; journal.events() < 10000 && journal.outer().is_none());
+            assert!(rt; journal.push(&entry_of(rt, made)));
+        }
+    }
+    Ok(journal)
+}
+
+#[test]
+fn a_loaded_value_reaches_its_hart(rt: HostRuntime) -> Result<(), Fail> {
+    use Move::{Deliver, Events, Got, Reply, Send, ServeMem, Take};
+    let image = image_of(&rt, &READING)?;
+    assert!(rt; image.len() <= FLAT_RAM_BYTES as usize);
+    let machine = with_probe(rt.alloc())?;
+    let devices = first_probe(rt.alloc());
+    let mut monitor = Monitor::new(rt.alloc(), &machine, &devices, &image)?;
+    for made in [
+        Events(8),
+        Take,
+        Take,
+        Take,
+        Send,
+        ServeMem,
+        Got,
+        Take,
+        Reply,
+        Deliver,
+        Events(3),
+    ] {
+        for _ in 0..times(made) {
+            assert!(rt; monitor.step(&entry_of(&rt, made)).is_ok());
+        }
+    }
+    // the low byte of auipc x6, 0
+    assert_eq!(rt; monitor.console(), "\x17".as_bytes());
+    Ok(())
+}
+
+#[test]
+fn moves_of_a_device_keep_their_order(rt: HostRuntime) -> Result<(), Fail> {
+    use Move::{
+        Deliver, Did, Events, Got, Intend, Others, Reply, Send, ServeIrq, ServeMem, Take, Tick,
+    };
+    use Replayed::{Illegal, Legal};
+    let rows: [(&[u32], &[Move], Replayed); 26] = [
+        // A read of memory, and an interrupt.
+        (
+            &READING,
+            &[
+                Events(8),
+                Take,
+                Take,
+                Take,
+                Send,
+                ServeMem,
+                Got,
+                Take,
+                Reply,
+                Deliver,
+                Events(3),
+            ],
+            Legal(None),
+        ),
+        (
+            &ALARMING,
+            &[
+                Events(8),
+                Take,
+                Take,
+                Take,
+                Send,
+                ServeIrq,
+                Got,
+                Take,
+                Tick,
+                Reply,
+                Deliver,
+                Events(3),
+            ],
+            Legal(None),
+        ),
+        // A device takes no item before there is one, nor more than there are.
+        (&READING, &[Take], Illegal(0)),
+        (&READING, &[Events(3), Take, Take], Illegal(2)),
+        // A service before the load, and the load before the end of a service.
+        (
+            &READING,
+            &[
+                Events(7),
+                Take,
+                Take,
+                Take,
+                Send,
+                ServeMem,
+                Got,
+                Events(1),
+                Take,
+                Reply,
+                Deliver,
+                Events(3),
+            ],
+            Legal(None),
+        ),
+        (&READING, &[Events(8), Take, Take, Take, Take], Illegal(4)),
+        (
+            &READING,
+            &[Events(8), Take, Take, Take, Send, Take],
+            Illegal(5),
+        ),
+        (
+            &READING,
+            &[Events(8), Take, Take, Take, Send, ServeMem, Take],
+            Illegal(6),
+        ),
+        // Nothing to ask; asked twice; asked again before the reply was got.
+        (&READING, &[Events(8), Take, Take, Send], Illegal(3)),
+        (
+            &READING,
+            &[Events(8), Take, Take, Take, Send, Send],
+            Illegal(5),
+        ),
+        (
+            &READING,
+            &[Events(8), Take, Take, Take, Send, ServeMem, Got, Send],
+            Illegal(7),
+        ),
+        // A service that was not asked, or of another way, or twice.
+        (
+            &READING,
+            &[Events(8), Take, Take, Take, ServeMem],
+            Illegal(4),
+        ),
+        (
+            &READING,
+            &[Events(8), Take, Take, Take, Send, ServeIrq],
+            Illegal(5),
+        ),
+        (
+            &ALARMING,
+            &[Events(8), Take, Take, Take, Send, ServeMem],
+            Illegal(5),
+        ),
+        (
+            &READING,
+            &[Events(8), Take, Take, Take, Send, ServeMem, ServeMem],
+            Illegal(6),
+        ),
+        // A reply that no service gave.
+        (
+            &READING,
+            &[Events(8), Take, Take, Take, Send, Got],
+            Illegal(5),
+        ),
+        // No answer is due to a store; a value is delivered after its Reply, and once.
+        (&READING, &[Events(8), Take, Reply], Illegal(2)),
+        (
+            &READING,
+            &[
+                Events(8),
+                Take,
+                Take,
+                Take,
+                Send,
+                ServeMem,
+                Got,
+                Take,
+                Deliver,
+            ],
+            Illegal(8),
+        ),
+        (
+            &READING,
+            &[
+                Events(8),
+                Take,
+                Take,
+                Take,
+                Send,
+                ServeMem,
+                Got,
+                Take,
+                Reply,
+                Deliver,
+                Deliver,
+            ],
+            Illegal(10),
+        ),
+        // Nothing is taken while a value is due.
+        (
+            &READING,
+            &[
+                Events(8),
+                Take,
+                Take,
+                Take,
+                Send,
+                ServeMem,
+                Got,
+                Take,
+                Others(3),
+                Take,
+            ],
+            Illegal(9),
+        ),
+        (
+            &READING,
+            &[
+                Events(8),
+                Take,
+                Take,
+                Take,
+                Send,
+                ServeMem,
+                Got,
+                Take,
+                Others(3),
+                Reply,
+                Take,
+                Deliver,
+            ],
+            Legal(None),
+        ),
+        // The hart waits until its load is delivered.
+        (&READING, &[Events(9)], Illegal(0)),
+        (
+            &READING,
+            &[
+                Events(8),
+                Take,
+                Take,
+                Take,
+                Send,
+                ServeMem,
+                Got,
+                Take,
+                Reply,
+                Events(1),
+            ],
+            Illegal(9),
+        ),
+        // A probe does nothing outside the machine.
+        (&READING, &[Events(8), Take, Take, Take, Intend], Illegal(4)),
+        (&READING, &[Events(8), Take, Take, Take, Did], Illegal(4)),
+        // A move of a device comes between two ticks, or a tick is refused.
+        (&READING, &[Events(8), Tick, Take, Tick, Tick], Illegal(4)),
+    ];
+    let machine = with_probe(rt.alloc())?;
+    let devices = first_probe(rt.alloc());
+    for (row, (words, moves, want)) in rows.into_iter().enumerate() {
+        let image = image_of(&rt, words)?;
+        assert!(rt; image.len() <= FLAT_RAM_BYTES as usize);
+        let journal = journal_of(&rt, moves)?;
+        let found = replay(rt.alloc(), &machine, &devices, &image, &journal)?;
+        assert_eq!(rt; found, want, "row {row}");
+    }
     Ok(())
 }

@@ -8,7 +8,8 @@ use Rattle.tv_items.specs.Fits.{FitsAction}
 use Rattle.tv_script.specs.Happenings.{Happening, answered, told_of, Wanted, asks, tells, replies, verdicts}
 use Rattle.tv_script.specs.Services.{Next, Asks, Rests, Loses, wants, IsServiceFrom, AwaitsService}
 use Rattle.tv_script.proofs.Wanted.{asked_next}
-use Rattle.tv_port.specs.Replays.{ReplayMoved, AwaitsFrom, FitsNext, IsHeardFrom, IsHeard, NextSo, RepeatedSo}
+use Rattle.tv_script.specs.Answers.{FitsNext, IsHeardFrom, IsHeard}
+use Rattle.tv_port.specs.Replays.{ReplayMoved, AwaitsFrom, NextSo, RepeatedSo}
 
 -- a reply that fits the next action
 fits_next : {S : Type 0} (n : Next S) (a : Action) (h : Heard) → NextSo n (Some a) → FitsAction a h → FitsNext n h

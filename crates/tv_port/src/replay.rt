@@ -1,8 +1,10 @@
 //! A port that answers from a list of replies, and what a device does next by it.
 
-ghost use Rattle.std.specs.Prelude.{◌≡◌, ◌-◌, [], length, drop, None, IfOk};
+ghost use Rattle.std.specs.Prelude.{◌≡◌, ◌-◌, [], length, drop, None, IfOk, IfSome};
+ghost use Rattle.tv_items.specs.Fits.{IsAction};
 ghost use Rattle.tv_plan.specs.Devices.{next};
-ghost use Rattle.tv_port.specs.Replays.{ReplayMoved, AwaitsFrom, IsHeard, NextSo, RepeatedSo};
+ghost use Rattle.tv_script.specs.Answers.{IsHeard};
+ghost use Rattle.tv_port.specs.Replays.{ReplayMoved, AwaitsFrom, NextSo, RepeatedSo};
 
 use crate::device::Device;
 use std::alloc::Global;
@@ -37,7 +39,7 @@ impl<'a> Port for Replay<'a> {
 
     ghost left = { λ p. length p.list.now - p.at };
 
-    ghost over = { λ p. drop p.at p.list.now ≡ [] };
+    ghost over = { λ p. (drop p.at p.list.now ≡ []) × IfSome p.stopped IsAction };
 
     ghost stopped = { λ p. p.stopped };
 
@@ -69,7 +71,8 @@ impl<'a> Port for Replay<'a> {
 /// action that is next after all of them; `None` where the service is at its end, and the device is in its last state then.
 pub fn repeat<D: Device>(device: &mut D, replies: &[Heard]) -> Option<Action>
     requires heard { IsHeard (next (D.state device.old)) replies.now }
-    ensures { RepeatedSo (next (D.state device.old) replies.now) (D.state device.new) result }
+    ensures repeated { RepeatedSo (next (D.state device.old) replies.now) (D.state device.new) result }
+    ensures action { IfSome result IsAction }
 {
     let mut port = Replay::new(replies);
     match device.serve(&mut port) {
@@ -91,7 +94,8 @@ pub fn next_after<D: Device + Drop>(
     alloc: Global,
 ) -> Result<Option<Action>, Memory>
     requires heard { IsHeard (next (D.state device.now)) replies.now }
-    ensures { IfOk result (λ action. NextSo (next (D.state device.now) replies.now) action) }
+    ensures next { IfOk result (λ action. NextSo (next (D.state device.now) replies.now) action) }
+    ensures action { IfOk result (λ action. IfSome action IsAction) }
 {
     let mut other = device.copy(alloc)?;
     Ok(repeat(&mut other, replies))

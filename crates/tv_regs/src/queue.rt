@@ -1,6 +1,6 @@
 //! The registers of one queue.
 
-ghost use Rattle.std.specs.Prelude.{◌≡◌, ◌<◌, ◌^◌};
+ghost use Rattle.std.specs.Prelude.{◌≡◌};
 ghost use Rattle.tv_transport.specs.Registers.{half, is_size, can_be_ready, with_low, with_high, laid_out};
 
 use tv_transport::{QueueState, Register};

@@ -1,9 +1,10 @@
 //! The registers of a device.
 
-ghost use Rattle.std.specs.Prelude.{◌≡◌, ◌≤◌, ◌<◌, ◌^◌, length, replicate, IfSome, IsSome};
+ghost use Rattle.std.specs.Prelude.{◌≡◌, ◌≤◌, ◌<◌, ◌^◌, ℕ, length, replicate, IfSome, IsSome};
 ghost use Rattle.tv_virtio.specs.Queue.{IsServable};
+ghost use Rattle.tv_regs.specs.Effects.{IsOfQueue};
 ghost use Rattle.tv_transport.specs.declared.registers.Register.TheVariants as register;
-ghost use Rattle.tv_transport.specs.Registers.{no_queue, first_registers, reset_registers, selected, size_most, readiness, shown, transport_load, accepted_stored, can_accept, status_stored, laid_out_in, ready_stored, notified, stored, transport_store, broken, config_changed, buffer_used, queue_regs, with_selected, IsReadyQueue, IsSound};
+ghost use Rattle.tv_transport.specs.Registers.{no_queue, first_registers, reset_registers, selected, size_most, readiness, shown, transport_load, accepted_stored, can_accept, laid_out_in, ready_stored, notified, stored, transport_store, broken, config_changed, buffer_used, queue_regs, with_selected, IsReadyQueue, IsSound};
 
 use crate::config;
 use crate::map::register_at;
@@ -164,10 +165,13 @@ impl Regs {
         }
     }
 
-    /// Stores the low `width` bytes of a value at an offset, and gives what this means for the device.
+    /// Stores the low `width` bytes of a value at an offset, and gives what this means for the device. No store changes how
+    /// many queues there are.
     pub fn write(&mut self, off: u16, width: Width, value: u64) -> Effect
         ensures registers { self.new ≡ (transport_store self.old width off value).registers }
         ensures effect { result ≡ (transport_store self.old width off value).effect }
+        ensures there { IsOfQueue (length self.old.queues) result }
+        ensures queues { length self.new.queues ≡ length self.old.queues }
     {
         if off >= CONFIG {
             return Effect::Config;
@@ -182,6 +186,8 @@ impl Regs {
     fn store(&mut self, register: Register, value: u32) -> Effect
         ensures registers { self.new ≡ (stored self.old register value).registers }
         ensures effect { result ≡ (stored self.old register value).effect }
+        ensures there { IsOfQueue (length self.old.queues) result }
+        ensures queues { length self.new.queues ≡ length self.old.queues }
     {
         match register {
             Register::DeviceFeaturesSel => self.device_select = value,
@@ -230,6 +236,8 @@ impl Regs {
     fn set_status(&mut self, value: u32) -> Effect
         ensures registers { self.new ≡ (stored self.old register.Status value).registers }
         ensures effect { result ≡ (stored self.old register.Status value).effect }
+        ensures there { IsOfQueue (length self.old.queues) result }
+        ensures queues { length self.new.queues ≡ length self.old.queues }
     {
         if value == 0 {
             self.reset();
@@ -249,7 +257,8 @@ impl Regs {
 
     /// Makes all as at the start but for the generation.
     fn reset(&mut self)
-        ensures { self.new ≡ reset_registers self.old }
+        ensures registers { self.new ≡ reset_registers self.old }
+        ensures queues { length self.new.queues ≡ length self.old.queues }
     {
         self.device_select = 0;
         self.driver_select = 0;
@@ -276,14 +285,16 @@ impl Regs {
     fn set_selected(&mut self, queue: QueueState)
         requires there { self.old.queue_select < length self.old.queues }
         requires sound { IsSound queue }
-        ensures { self.new ≡ with_selected self.old queue }
+        ensures registers { self.new ≡ with_selected self.old queue }
+        ensures queues { length self.new.queues ≡ length self.old.queues }
     {
         self.queues[self.queue_select as usize] = queue;
     }
 
     /// Stores to a register of the selected queue's size and areas, which stay while the queue is ready.
     fn lay_out(&mut self, register: Register, value: u32)
-        ensures { self.new ≡ laid_out_in self.old (selected self.old) register value }
+        ensures registers { self.new ≡ laid_out_in self.old (selected self.old) register value }
+        ensures queues { length self.new.queues ≡ length self.old.queues }
     {
         let Some(queue) = self.selected() else {
             return;
@@ -297,6 +308,8 @@ impl Regs {
     fn make_ready(&mut self, value: u32) -> Effect
         ensures registers { self.new ≡ (ready_stored self.old (selected self.old) value).registers }
         ensures effect { result ≡ (ready_stored self.old (selected self.old) value).effect }
+        ensures there { IsOfQueue (length self.old.queues) result }
+        ensures queues { length self.new.queues ≡ length self.old.queues }
     {
         let Some(queue) = self.selected() else {
             return Effect::None;
@@ -383,7 +396,8 @@ fn fresh_queues(count: u8) -> ArrayVec<QueueState, QUEUES>
 
 /// What a store to QueueNotify means: a number of 65,536 or more is that of no queue.
 fn notified(value: u32) -> Effect
-    ensures { result ≡ notified value }
+    ensures effect { result ≡ notified value }
+    ensures there { (queues : ℕ) → IsOfQueue queues result }
 {
     if value < 1 << 16 {
         Effect::Notify(value as u16)

@@ -3,7 +3,6 @@ use Rattle.std.specs.Prelude.{◌≡◌, ℕ, suc, ◌≤◌, ◌++◌, List, le
 use Rattle.tv_base.specs.declared.Why.{Why}
 use Rattle.tv_base.specs.declared.Why.TheVariants as why
 use Rattle.tv_journal.specs.declared.Entry.{Entry}
-use Rattle.tv_journal.specs.Journals.{record_limit}
 use Rattle.tv_machine.specs.declared.machine.Machine.{Machine}
 use Rattle.tv_out.specs.Faults.{Rose}
 use Rattle.tv_out.specs.Told.{ToldSink, appended, IsAllOut, IsCut}
@@ -12,11 +11,11 @@ use Rattle.tv_spec.specs.declared.Stop.TheVariants as stop
 use Rattle.tv_spec.specs.Legal.{IsLegalRun, with_outer}
 use Rattle.tv_spec.specs.Setup.{setup_of}
 use Rattle.tv_spec.specs.Shows.{debug_bytes, cause_of_end}
-use Rattle.tv_spec.specs.Solo.{Solo, Going, rounds, solo_rounds, solo_run, outer_of_stop}
+use Rattle.tv_spec.specs.Solo.{Solo, Going, rounds, answers_in, solo_rounds, solo_run, outer_of_stop}
 use Rattle.tv_spec.specs.State.{first_state}
 use Rattle.tv_spec.specs.Step.{made}
 use Rattle.tv_runner.specs.declared.run.Ran.{Ran}
-use Rattle.tv_runner.specs.Parts.{Held, IsPart}
+use Rattle.tv_runner.specs.Parts.{Held, IsPart, Part}
 
 -- bytes of the last of some rounds were lost: those of the rounds before went out, and a front of its own
 pub record IsLostIn (before bytes : List ℕ) (old new : ToldSink) : Type 0 where
@@ -30,14 +29,18 @@ abbrev pub IsPut : Bool → List ℕ → List ℕ → ToldSink → ToldSink → 
 IsPut true before bytes old new = IsLostIn before bytes old new
 IsPut false before bytes old new = IsAllOut bytes old new
 
+-- so many rounds of the schedule
+abbrev pub rounds_of : ℕ → Part
+rounds_of n setup bounds solo = rounds setup bounds n solo
+
 -- so many rounds and one more were carried out, with these bytes before the last one
 pub record AreRounds (old new : Held) (stop : Option Stop) (lost : Bool) (told now : ToldSink) : Type 0 where
   pub earlier : ℕ
   pub middle : Held
   pub bytes : List ℕ
-  pub before : IsPart (rounds old.guest.setup (record_limit old.journal) earlier) old middle None
-  pub part : IsPart (rounds old.guest.setup (record_limit old.journal) (suc earlier)) old (record new { bytes = bytes }) stop
-  pub few : suc earlier ≤ old.guest.setup.steps
+  pub before : IsPart (rounds_of earlier) old middle None
+  pub part : IsPart (rounds_of (suc earlier)) old (record new { bytes = bytes }) stop
+  pub few : suc earlier ≤ old.guest.steps
   pub stopped : IfNone stop (lost ≡ true)
   pub put : IsPut lost middle.bytes bytes told now
 
@@ -52,15 +55,15 @@ cause_by None = why.DebugLost
 cause_by (Some (stop.Ended cause)) = cause
 cause_by (Some stop.Full) = why.Full
 
--- a run of a machine with an image: so many rounds of the schedule, which are all of it where it stopped; and where it did
--- not stop, bytes were lost
+-- a run of a machine with an image: so many rounds of the schedule with the replies from outside that its entries have, which are
+-- all of it where it stopped; and where it did not stop, bytes were lost
 pub record IsRun (machine : Machine) (image : List ℕ) (ran : Ran) (old new : ToldSink) : Type 0 where
   pub earlier : ℕ
   pub middle : Solo
   pub solo : Solo
-  pub before : ◌≡◌ {A = Going} (solo_rounds machine image earlier) (middle, None)
-  pub rounds : ◌≡◌ {A = Going} (solo_rounds machine image (suc earlier)) (solo, ran.stop)
-  pub whole : is_some ran.stop ≡ true → ◌≡◌ {A = Going} (solo_run machine image) (solo, ran.stop)
+  pub before : ◌≡◌ {A = Going} (solo_rounds machine image (answers_in ran.journal.entries) earlier) (middle, None)
+  pub rounds : ◌≡◌ {A = Going} (solo_rounds machine image (answers_in ran.journal.entries) (suc earlier)) (solo, ran.stop)
+  pub whole : is_some ran.stop ≡ true → ◌≡◌ {A = Going} (solo_run machine image (answers_in ran.journal.entries)) (solo, ran.stop)
   pub stopped : IfNone ran.stop (ran.lost ≡ true)
   pub entries : ran.journal.entries ≡ solo.entries
   pub outer : ran.journal.outer ≡ outer_by solo.entries ran.stop

@@ -2,29 +2,35 @@
 
 ghost use Rattle.std.specs.Prelude.{false, ◌≡◌, ◌<◌, ◌≤◌, ◌+◌, ◌-◌, ◌*◌, ◌^◌, ◌++◌, [], None, IfOk, length};
 ghost use Rattle.std.specs.Result.{result_err};
-ghost use Rattle.tv_journal.specs.Journals.{record_limit};
 ghost use Rattle.tv_machine.specs.Valid.{IsValid};
 ghost use Rattle.tv_spec.specs.Shows.{byte_shown};
-ghost use Rattle.tv_spec.specs.Solo.{turn, turns, solo_tick, round};
-ghost use Rattle.tv_runner.specs.Parts.{held, IsNew, BurstComesTo, IsPart, IsWithin, IsRoundWithin};
+ghost use Rattle.tv_spec.specs.Solo.{solo_tick, round};
+ghost use Rattle.tv_runner.specs.Parts.{held, IsAlone, IsNew, BurstComesTo, IsPart, IsWithin, IsRoundWithin, all_turns, ends_with_tick, turn_of};
 ghost use Rattle.tv_runner.specs.Runs.{AreRounds, outer_by};
 
 use arrayvec::ArrayVec;
 use std::alloc::Global;
 use tv_base::{HART_EVENTS, HartNo, Memory, Why};
+use tv_guest::Guest;
 use tv_journal::{Entry, Journal};
 use tv_machine::Machine;
-use tv_model::Guest;
 use tv_out::{Sink, put_all};
-use tv_spec::{Mode, Shown, Stop};
+use tv_spec::{Closed, Mode, Shown, Stop};
 
 /// Events of a turn.
 const TURN: u32 = 64;
 
+/// Nothing is closed to harts: there is no device, and the ring takes all bytes of a round.
+const OPEN: Closed = Closed {
+    debug: false,
+    loads: [false; 8],
+    stores: [false; 8],
+};
+
 /// The debug bytes of a round: at most 64 of each of 8 harts.
 type Ring = ArrayVec<u8, 512>;
 
-/// A machine that runs on one thread, with what is kept of its run.
+/// A machine without devices that runs on one thread, with what is kept of its run.
 #[derive(Drop)]
 pub struct Engine {
     guest: Guest,
@@ -63,10 +69,11 @@ impl Engine {
 
     /// Rounds until the run stops or bytes are lost. After each round its bytes are put.
     pub fn rounds<O: Sink>(&mut self, out: &mut O) -> Ended
-        requires harts { 0 < self.old.guest.setup.harts }
+        requires alone { IsAlone self.old.guest }
+        requires harts { 0 < length self.old.guest.harts }
         requires runs { self.old.guest.mode ≡ Mode.Running }
-        requires steps { self.old.guest.setup.steps ≤ HART_EVENTS }
-        requires limit { self.old.guest.events < self.old.guest.setup.steps }
+        requires steps { self.old.guest.steps ≤ HART_EVENTS }
+        requires limit { self.old.guest.events < self.old.guest.steps }
         requires new { self.old.guest.events ≡ 0 }
         requires empty { self.old.journal.entries ≡ [] }
         requires open { self.old.journal.outer ≡ None }
@@ -88,13 +95,14 @@ impl Engine {
     /// # Errors
     /// Why the run stopped in it.
     fn round(&mut self) -> Result<(), Stop>
-        requires harts { 0 < self.old.guest.setup.harts }
+        requires alone { IsAlone self.old.guest }
+        requires harts { 0 < length self.old.guest.harts }
         requires runs { self.old.guest.mode ≡ Mode.Running }
         requires few { length self.old.journal.entries + 513 < 2 ^ 32 }
         requires ring { self.old.bytes.items ≡ [] }
         requires open { self.old.journal.outer ≡ None }
-        ensures part { IsPart (round self.old.guest.setup (record_limit self.old.journal)) (held self.old) (held self.new) (result_err result) }
-        ensures few { self.old.guest.setup.harts ≤ 8 }
+        ensures part { IsPart round (held self.old) (held self.new) (result_err result) }
+        ensures few { length self.old.guest.harts ≤ 8 }
         ensures within { IsRoundWithin self.old.guest self.new.guest self.old.journal self.new.journal (result_err result) }
     {
         match self.turns() {
@@ -108,13 +116,14 @@ impl Engine {
     /// # Errors
     /// Why the run stopped in one of them.
     fn turns(&mut self) -> Result<(), Stop>
+        requires alone { IsAlone self.old.guest }
         requires runs { self.old.guest.mode ≡ Mode.Running }
         requires few { length self.old.journal.entries + 512 < 2 ^ 32 }
         requires ring { self.old.bytes.items ≡ [] }
         requires open { self.old.journal.outer ≡ None }
-        ensures part { IsPart (turns self.old.guest.setup (record_limit self.old.journal) 0 self.old.guest.setup.harts) (held self.old) (held self.new) (result_err result) }
-        ensures few { self.old.guest.setup.harts ≤ 8 }
-        ensures within { IsWithin (self.old.guest.setup.harts * 64) (held self.old) (held self.new) (result_err result) }
+        ensures part { IsPart all_turns (held self.old) (held self.new) (result_err result) }
+        ensures few { length self.old.guest.harts ≤ 8 }
+        ensures within { IsWithin (length self.old.guest.harts * 64) (held self.old) (held self.new) (result_err result) }
     {
         for number in 0..self.guest.harts() {
             let Some(hart) = HartNo::new(number) else {
@@ -133,12 +142,13 @@ impl Engine {
     /// # Errors
     /// Why the run stopped in it.
     fn turn(&mut self, hart: HartNo) -> Result<(), Stop>
-        requires exists { hart < self.old.guest.setup.harts }
+        requires alone { IsAlone self.old.guest }
+        requires exists { hart < length self.old.guest.harts }
         requires runs { self.old.guest.mode ≡ Mode.Running }
         requires few { length self.old.journal.entries + 64 < 2 ^ 32 }
         requires ring { length self.old.bytes.items + 64 ≤ 512 }
         requires open { self.old.journal.outer ≡ None }
-        ensures part { IsPart (turn self.old.guest.setup (record_limit self.old.journal) hart 64) (held self.old) (held self.new) (result_err result) }
+        ensures part { IsPart (turn_of hart 64) (held self.old) (held self.new) (result_err result) }
         ensures within { IsWithin 64 (held self.old) (held self.new) (result_err result) }
     {
         let mut left = TURN;
@@ -157,7 +167,8 @@ impl Engine {
     /// Why the run stopped in it.
     #[inline(always)]
     fn burst(&mut self, hart: HartNo, left: u32) -> Result<u32, Stop>
-        requires exists { hart < self.old.guest.setup.harts }
+        requires alone { IsAlone self.old.guest }
+        requires exists { hart < length self.old.guest.harts }
         requires runs { self.old.guest.mode ≡ Mode.Running }
         requires some { 0 < left }
         requires few { length self.old.journal.entries + left < 2 ^ 32 }
@@ -168,7 +179,7 @@ impl Engine {
         if !self.journal.has_room(&Entry::Hart(hart)) {
             return Err(Stop::Full);
         }
-        let (made, shown) = self.guest.burst(hart, left);
+        let (made, shown) = self.guest.burst(hart, left, &OPEN);
         let _added = self.journal.push_events(hart, made);
         show(&mut self.bytes, shown);
         match self.guest.mode() {
@@ -183,11 +194,12 @@ impl Engine {
     /// `Full` where the journal has no room for it.
     #[inline(always)]
     fn tick(&mut self) -> Result<(), Stop>
+        requires alone { IsAlone self.old.guest }
         requires runs { self.old.guest.mode ≡ Mode.Running }
-        requires unticked { self.old.guest.ticked ≡ false }
+        requires unticked { ends_with_tick self.old.journal.entries ≡ false }
         requires few { length self.old.journal.entries < 2 ^ 32 - 1 }
         requires open { self.old.journal.outer ≡ None }
-        ensures part { IsPart (solo_tick self.old.guest.setup (record_limit self.old.journal)) (held self.old) (held self.new) (result_err result) }
+        ensures part { IsPart solo_tick (held self.old) (held self.new) (result_err result) }
         ensures entries { length self.new.journal.entries ≤ length self.old.journal.entries + 1 }
         ensures events { self.new.guest.events ≡ self.old.guest.events }
         ensures bytes { self.new.bytes ≡ self.old.bytes }
@@ -196,7 +208,7 @@ impl Engine {
         if !self.journal.has_room(&entry) {
             return Err(Stop::Full);
         }
-        let _ticked = self.guest.tick(TURN);
+        self.guest.tick(TURN);
         let _added = self.journal.push(&entry);
         Ok(())
     }
@@ -225,6 +237,6 @@ fn show(bytes: &mut Ring, shown: Shown)
 {
     match shown {
         Shown::Byte(byte) => bytes.push(byte),
-        Shown::Nothing | Shown::Finish(_) => {}
+        Shown::Nothing | Shown::Finish(_) | Shown::Access(_, _) => {}
     }
 }

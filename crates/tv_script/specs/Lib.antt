@@ -1,3 +1,4 @@
+pub mod Answers
 pub mod Happenings
 pub mod Scripts
 pub mod Services

@@ -1,5 +1,6 @@
--- What a hart reaches: guest memory and the local ports.
-use Rattle.std.specs.Prelude.{ℕ, ◌%◌, ◌^◌, Bool, true, false, if◌then◌else◌, List, [], ◌∷◌, length, Option, Some, None}
+-- What a hart reaches: guest memory, the local ports, and the registers of devices.
+use Rattle.std.specs.Prelude.{ℕ, zero, suc, ◌+◌, ◌*◌, ◌%◌, ◌^◌, Bool, true, false, if◌then◌else◌, List, [], ◌∷◌, ◌++◌, length, Option, Some, None}
+use Rattle.tv_base.specs.declared.Access.TheVariants as access
 use Rattle.tv_base.specs.declared.Width.{Width}
 use Rattle.tv_base.specs.declared.Width.TheVariants.{B4}
 use Rattle.tv_base.specs.Width.{width_bytes}
@@ -21,12 +22,12 @@ use Rattle.tv_intc.specs.TimerState.{Clock}
 use Rattle.tv_ram.specs.Memory.{loaded as number_in, number_at}
 use Rattle.tv_spec.specs.declared.Shown.TheVariants as shown
 use Rattle.tv_spec.specs.LocalState.{LocalState, with_reservation, written_by}
-use Rattle.tv_spec.specs.Reach.{Reach}
+use Rattle.tv_spec.specs.Reach.{Reach, is_closed}
 use Rattle.tv_spec.specs.Reservations.{granule, is_reserved, reserved_by}
 use Rattle.tv_isa.specs.declared.AmoOp.{AmoOp}
 use Rattle.tv_exec.specs.Atomic.{amo_of}
 
--- the ranges of addresses of the local ports, and those of a machine with so many bytes of memory
+-- the ranges of addresses of the local ports
 abbrev pub port_ranges : List Range
 port_ranges =
     record { base = 0x0010_0000; len = 4; target = target.Finisher }
@@ -35,12 +36,20 @@ port_ranges =
     ∷ record { base = 0x1000_0000; len = 1; target = target.Debug }
     ∷ []
 
-abbrev pub local_ranges : ℕ → List Range
-local_ranges ram = record { base = 0x8000_0000; len = ram; target = target.Ram } ∷ port_ranges
+-- those of the devices in so many slots
+abbrev pub device_ranges : ℕ → List Range
+device_ranges zero = []
+device_ranges (suc slot) =
+    device_ranges slot ++ record { base = 0x1000_1000 + 0x1000 * slot; len = 0x1000; target = target.Device slot } ∷ []
+
+-- those of a machine with so many bytes of memory and so many devices
+abbrev pub local_ranges : ℕ → ℕ → List Range
+local_ranges ram devices =
+    record { base = 0x8000_0000; len = ram; target = target.Ram } ∷ port_ranges ++ device_ranges devices
 
 -- where the n bytes from an address on lie, with their offset there
 abbrev pub target_at : Reach → ℕ → ℕ → Option (Target × ℕ)
-target_at p addr n = range_at (local_ranges (length p.local.ram)) addr n
+target_at p addr n = range_at (local_ranges (length p.local.ram) p.local.devices) addr n
 
 -- what a store to the finisher asks for; only one of 4 bytes asks for something
 abbrev pub finish_by : Width → ℕ → Option Finish
@@ -62,7 +71,8 @@ with_controller p intc = record p { local = record p.local { intc = intc } }
 abbrev pub after_controller_load : Reach → ℕ × Controller → Loaded × Reach
 after_controller_load p (value, intc) = (loaded.Value value, with_controller p intc)
 
--- a load: memory gives the number there, a block its register, the finisher and the debug port 0; no device is on the bus yet
+-- a load: memory gives the number there, a block its register, the finisher and the debug port 0. The load of a device is
+-- issued, and its value comes later
 abbrev pub load_from : Reach → Width → ℕ → Option (Target × ℕ) → Loaded × Reach
 load_from p width addr None = (loaded.Nothing, p)
 load_from p width addr (Some (target.Ram, off)) = (loaded.Value (number_at p.local.ram addr (width_bytes width)), p)
@@ -70,9 +80,12 @@ load_from p width addr (Some (target.Finisher, off)) = (loaded.Value 0, p)
 load_from p width addr (Some (target.Timer, off)) = (loaded.Value (load_of_timer p.local.timer off width), p)
 load_from p width addr (Some (target.Intc, off)) = after_controller_load p (load_of_controller p.local.intc off width)
 load_from p width addr (Some (target.Debug, off)) = (loaded.Value 0, p)
-load_from p width addr (Some (target.Device device, off)) = (loaded.Nothing, p)
+load_from p width addr (Some (target.Device slot, off)) =
+    if is_closed p.closed.loads slot then (loaded.Full, p)
+    else (loaded.Held, record p { shown = shown.Access slot (access.Load width off) })
 
--- a store: memory has the bytes, a block its register, the debug port shows its byte, the finisher may end the run
+-- a store: memory has the bytes, a block its register, the debug port shows its byte, the finisher may end the run. The store
+-- to a device is issued, and the hart goes on
 abbrev pub store_to : Reach → ℕ → Width → ℕ → ℕ → Option (Target × ℕ) → Stored × Reach
 store_to p hart width addr value None = (stored.Nothing, p)
 store_to p hart width addr value (Some (target.Ram, off)) =
@@ -82,8 +95,11 @@ store_to p hart width addr value (Some (target.Timer, off)) =
     (stored.Done, with_timer p (store_to_timer p.local.timer off width value))
 store_to p hart width addr value (Some (target.Intc, off)) =
     (stored.Done, with_controller p (store_to_controller p.local.intc off width value))
-store_to p hart width addr value (Some (target.Debug, off)) = (stored.Done, record p { shown = shown.Byte (value % 2 ^ 8) })
-store_to p hart width addr value (Some (target.Device device, off)) = (stored.Nothing, p)
+store_to p hart width addr value (Some (target.Debug, off)) =
+    if p.closed.debug then (stored.Full, p) else (stored.Done, record p { shown = shown.Byte (value % 2 ^ 8) })
+store_to p hart width addr value (Some (target.Device slot, off)) =
+    if is_closed p.closed.stores slot then (stored.Full, p)
+    else (stored.Done, record p { shown = shown.Access slot (access.Store width off (value % 256 ^ width_bytes width)) })
 
 -- AMO, LR and SC of a hart, by the number in memory; they reach memory alone
 abbrev pub after_amo : Reach → ℕ → Width → ℕ → AmoOp → ℕ → Option ℕ → Option ℕ × Reach
@@ -105,7 +121,7 @@ after_conditional p hart width addr value (Some old) =
     (Some true, record p { local = written_by ended hart addr (width_bytes width) value })
     else (Some false, record p { local = ended })
 
--- memory and ports as the place of harts
+-- all that as the place of harts
 abbrev pub local_meaning : Meaning Reach
 local_meaning = record {
   fetch = λ p addr. number_in p.local.ram addr 4;

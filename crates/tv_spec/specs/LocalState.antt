@@ -7,21 +7,23 @@ use Rattle.tv_intc.specs.TimerState.{Clock}
 use Rattle.tv_ram.specs.Memory.{with_number}
 use Rattle.tv_spec.specs.Reservations.{after_hart_write, none_reserved, with_reserved}
 
--- guest memory; by the number of a hart the granule that it has reserved, if any; the timer block; and the interrupt
--- controller
+-- guest memory; by the number of a hart the granule that it has reserved, if any; the timer block; the interrupt controller;
+-- and how many slots have a device
 pub record LocalState : Type 0 where
   pub ram : List ℕ
   pub reservations : List (Option ℕ)
   pub timer : Clock
   pub intc : Controller
+  pub devices : ℕ
 
--- as a run begins, for so many harts with this memory
-abbrev pub first_local : ℕ → List ℕ → LocalState
-first_local harts ram = record {
+-- as a run begins, for so many harts and devices with this memory
+abbrev pub first_local : ℕ → ℕ → List ℕ → LocalState
+first_local harts devices ram = record {
   ram = ram;
   reservations = none_reserved;
   timer = started_timer harts;
   intc = started_controller harts;
+  devices = devices;
 }
 
 -- the interrupt lines of a hart, as bits of mip; no bit is in both parts

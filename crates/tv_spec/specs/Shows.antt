@@ -2,6 +2,8 @@
 use Rattle.std.specs.Prelude.{ℕ, List, [], ◌∷◌, ◌++◌, Option, Some, None}
 use Rattle.tv_base.specs.declared.Why.{Why}
 use Rattle.tv_base.specs.declared.Why.TheVariants as why
+use Rattle.tv_items.specs.declared.action.Heard.{Heard}
+use Rattle.tv_items.specs.declared.action.Heard.TheVariants as heard
 use Rattle.tv_journal.specs.declared.Entry.TheVariants as entry
 use Rattle.tv_spec.specs.declared.Mode.{Mode}
 use Rattle.tv_spec.specs.declared.Mode.TheVariants as mode
@@ -25,10 +27,16 @@ abbrev pub debug_bytes : Setup → State → List Move → List ℕ
 debug_bytes setup s [] = []
 debug_bytes setup s (move ∷ moves) = bytes_of s move ++ debug_bytes setup (done setup s move) moves
 
--- the cause for which a move ends the run
+-- the cause for which what a device hears of its action outside ends the run
+abbrev pub end_heard : ℕ → Heard → Option Why
+end_heard d (heard.Taken n) = Some (why.Lost d)
+end_heard d _ = None
+
+-- the cause for which a move ends a run that has not ended
 abbrev pub end_of : Setup → State → Move → Option Why
 end_of setup s (made (entry.Hart hart)) = end_of_event setup s hart
-end_of setup s (made e) = None
+end_of setup s (made (entry.Did d heard)) = end_heard d heard
+end_of setup s (made _) = None
 end_of setup s (ended cause) = Some cause
 
 abbrev pub or_else : Option Why → Option Why → Option Why

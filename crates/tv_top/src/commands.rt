@@ -1,6 +1,6 @@
 //! What each command does with its machine.
 
-ghost use Rattle.std.specs.Prelude.{◌≡◌, ◌<◌, ◌≤◌, None, Some, length};
+ghost use Rattle.std.specs.Prelude.{◌≡◌, ◌<◌, ◌≤◌, [], None, Some, length};
 ghost use Rattle.std.specs.Option.{option_map};
 ghost use Rattle.std.specs.Result.{result_map_both};
 ghost use Rattle.tv_machine.specs.Valid.{IsValid};
@@ -29,7 +29,8 @@ impl<S: Store, O: Sink, E: Sink, R: Entropy> PlainOutside<S, O, E, R> {
         command: Command<'a>,
         machine: &'a Machine,
     ) -> Result<Option<Run>, Refusal<'a>>
-        requires { IsValid machine.now }
+        requires valid { IsValid machine.now }
+        requires alone { machine.now.device ≡ [] }
         ensures does { Does (asked_by command.entry) machine.now (sides (S.told self.old.store) (O.told self.old.out)) (sides (S.told self.new.store) (O.told self.new.out))
             (result_map_both (λ run. run) refused_by result) }
         ensures err { E.told self.new.err ≡ E.told self.old.err }
@@ -60,7 +61,8 @@ impl<S: Store, O: Sink, E: Sink, R: Entropy> PlainOutside<S, O, E, R> {
         image: &'a str,
         journal: Option<&'a str>,
     ) -> Result<Run, Refusal<'a>>
-        requires { IsValid machine.now }
+        requires valid { IsValid machine.now }
+        requires alone { machine.now.device ≡ [] }
         ensures does { DoesSolo machine.now image.now (option_map (λ file. file.now) journal.entry) (sides (S.told self.old.store) (O.told self.old.out)) (sides (S.told self.new.store) (O.told self.new.out))
             (result_map_both Some refused_by result) }
         ensures err { E.told self.new.err ≡ E.told self.old.err }
@@ -79,7 +81,8 @@ impl<S: Store, O: Sink, E: Sink, R: Entropy> PlainOutside<S, O, E, R> {
         image: &'a str,
         journal: &'a str,
     ) -> Result<(), Refusal<'a>>
-        requires { IsValid machine.now }
+        requires valid { IsValid machine.now }
+        requires alone { machine.now.device ≡ [] }
         ensures does { DoesReplay machine.now image.now journal.now (sides (S.told self.old.store) (O.told self.old.out)) (sides (S.told self.new.store) (O.told self.new.out))
             (result_map_both (λ _. None) refused_by result) }
         ensures err { E.told self.new.err ≡ E.told self.old.err }

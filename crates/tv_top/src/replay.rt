@@ -1,6 +1,6 @@
 //! The judgement of a replay, and the line that it gives.
 
-ghost use Rattle.std.specs.Prelude.{◌≡◌, ◌≤◌, IfOk, length, string_bytes};
+ghost use Rattle.std.specs.Prelude.{◌≡◌, ◌≤◌, [], IfOk, length, string_bytes};
 ghost use Rattle.std.specs.Result.{result_map_both};
 ghost use Rattle.tv_machine.specs.Valid.{IsValid};
 ghost use Rattle.tv_top.specs.Refusals.{refused_by};
@@ -13,6 +13,7 @@ use tv_base::Memory;
 use tv_journal::Journal;
 use tv_machine::Machine;
 use tv_model::{Replayed, replay};
+use tv_small::Probe;
 
 /// The line of a journal that is a legal run of a machine with an image.
 pub fn judge<'a>(
@@ -22,11 +23,14 @@ pub fn judge<'a>(
     journal: &Journal,
 ) -> Result<String, Refusal<'a>>
     requires valid { IsValid machine.now }
+    requires alone { machine.now.device ≡ [] }
     requires fits { length image.now ≤ machine.now.ram }
     ensures judged { IsJudged machine.now image.now journal.now (result_map_both string_bytes refused_by result) }
     ensures short { IfOk result (λ line. length (string_bytes line) ≤ 4096) }
 {
-    match replay(alloc, machine, image, journal)? {
+    // No machine file has a device yet.
+    let devices: Vec<Probe> = Vec::new(alloc);
+    match replay(alloc, machine, &devices, image, journal)? {
         Replayed::Legal(status) => {
             let line = line_of_legal(alloc, journal.records(), journal.events(), status)?;
             Ok(line)

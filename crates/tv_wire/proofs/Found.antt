@@ -29,7 +29,7 @@ known : (kind tag : ℕ) (body : List ℕ) (n m : Msg) → BodyOf kind tag body 
 known kind tag body n m is found = subst (BodyOf kind tag body) (same_Some n m found) is
 
 -- a byte, and the bytes behind it
-byte_again : (n : ℕ) (bs : List ℕ) → n < length bs → slice_index bs n ∷ drop (n + 1) bs ≡ drop n bs
+pub byte_again : (n : ℕ) (bs : List ℕ) → n < length bs → slice_index bs n ∷ drop (n + 1) bs ≡ drop n bs
 byte_again n bs more = sym (drop_more bs n 0 more)
 
 -- a number of two bytes, and one of eight behind it
@@ -204,16 +204,16 @@ found_write tag body m each is =
     let long : 8 ≤ length body = grind (arith, nat_tests, found.0) in
     found_write_of tag (little_number 8 body) body m (read.piece_read (drop 8 body)) each long refl refl found.1
 
-pairs_count : (count : ℕ) (body : List ℕ) → length (read.pairs_read count body) ≡ count
+pub pairs_count : (count : ℕ) (body : List ℕ) → length (read.pairs_read count body) ≡ count
 pairs_count zero body = refl
 pairs_count (suc count) body = ap suc (pairs_count count (drop 10 body))
 
-pairs_fit : (count : ℕ) (body : List ℕ) → AreBytes body → FitPairs (read.pairs_read count body)
+pub pairs_fit : (count : ℕ) (body : List ℕ) → AreBytes body → FitPairs (read.pairs_read count body)
 pairs_fit zero body each = tt
 pairs_fit (suc count) body each =
     (number_fits 2 body each, number_fits 8 (drop 2 body) (bytes_behind 2 body each), pairs_fit count (drop 10 body) (bytes_behind 10 body each))
 
-pairs_again : (count : ℕ) (body : List ℕ) → AreBytes body → length body ≡ 10 * count → flat_map pair_bytes (read.pairs_read count body) ≡ body
+pub pairs_again : (count : ℕ) (body : List ℕ) → AreBytes body → length body ≡ 10 * count → flat_map pair_bytes (read.pairs_read count body) ≡ body
 pairs_again zero [] each size = refl
 pairs_again zero (b ∷ body) each size = absurd (omega (arith, size))
 pairs_again (suc count) body each size =

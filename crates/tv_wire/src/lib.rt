@@ -25,10 +25,10 @@ mod reader;
 mod writer;
 
 pub use laws::{no_spelling_begins_another, one_reading, one_spelling};
-pub use reader::decode;
+pub use reader::{decode, read_pairs};
 use tv_base::Width;
 use tv_items::{Bytes, Stats};
-pub use writer::encode;
+pub use writer::{encode, write_stats};
 
 /// Bytes before a message's body: its length, its kind and its tag.
 const HEAD_BYTES: usize = 7;

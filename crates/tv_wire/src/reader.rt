@@ -297,8 +297,8 @@ fn is_answer(status: u8, other: u32, count: u8) -> bool
     }
 }
 
-/// So many tags with their numbers.
-fn read_pairs(count: u8, body: &[u8]) -> Stats
+/// So many tags with their numbers, ten bytes each: tag u16, value u64.
+pub fn read_pairs(count: u8, body: &[u8]) -> Stats
     requires few { count ≤ STATS }
     requires all { length body.now ≡ 10 * count }
     ensures { result ≡ spec.pairs_read count body.now }

@@ -205,11 +205,11 @@ fn write_answer(status: u8, other: u32, stats: &Stats, out: &mut [u8]) -> usize
     ensures written { out.new ≡ (status ∷ (little_bytes 4 other ++ (length stats.now ∷ flat_map pair_bytes stats.now))) ++ drop result out.old }
 {
     write_byte_and_number(status, other, out);
-    5 + write_count(stats.as_slice(), &mut out[5..])
+    5 + write_stats(stats.as_slice(), &mut out[5..])
 }
 
-/// Writes how many numbers there are, and each behind its tag; answers how many bytes that makes.
-fn write_count(pairs: &[(u16, u64)], out: &mut [u8]) -> usize
+/// Writes how many numbers there are, and each behind its tag, at the start of `out`; answers how many bytes that makes.
+pub fn write_stats(pairs: &[(u16, u64)], out: &mut [u8]) -> usize
     requires few { length pairs.now ≤ STATS }
     requires room { 1 + 10 * STATS ≤ length out.old }
     ensures size { result ≡ 1 + 10 * length pairs.now }

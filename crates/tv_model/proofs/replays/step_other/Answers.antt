@@ -6,7 +6,7 @@ use Rattle.tv_model.proofs.Played.{tick-found}
 use Rattle.tv_model.proofs.replays.step_other.Goals as goal
 
 pub returns-in_err-step_each-in-Some : goal.returns-in_err-step_each-in-Some
-returns-in_err-step_each-in-Some c =
+returns-in_err-step_each-in-Some g c =
     let p = err_from_is_err_and c.from_residual.result c.from_residual.ensures.1 in
     rw (p.1, p.2) (record {
       entry = entry.Tick c.in-Some.n;
@@ -17,7 +17,7 @@ returns-in_err-step_each-in-Some c =
     })
 
 pub returns-in_ok-step_each-in-Some : goal.returns-in_ok-step_each-in-Some
-returns-in_ok-step_each-in-Some c = record {
+returns-in_ok-step_each-in-Some g c = record {
   entry = entry.Tick c.in-Some.n;
   count = 1;
   next = tick-found (records_of c.args.journal.now.entries) c.args.cursor.now c.next_tick.new.cursor c.in-Some.n c.in-Some.ensures;

@@ -10,5 +10,5 @@ returns-clause-ran g c =
     ap (λ (j : JournalState). record_limit j) journal ∙ omega arith in
     run-of c.args.machine.now c.args.image.now c.in_ok-engine.engine.guest c.rounds-ended.new.self.guest c.in_ok-engine.engine.journal c.rounds-ended.new.self.journal c.into_journal.result c.rounds-ended.new.self.bytes.items
     c.rounds-ended.result.stop c.rounds-ended.result.lost (g.O.Sink.told c.args.out.now) (g.O.Sink.told c.rounds-ended.new.out)
-    c.in_ok-engine.ensures.guest (ap (λ (j : JournalState). j.entries) c.in_ok-engine.ensures.journal) limit
+    c.in_ok-engine.ensures.guest c.requires.alone (ap (λ (j : JournalState). j.entries) c.in_ok-engine.ensures.journal) limit
     c.rounds-ended.ensures.rounds c.into_journal.ensures

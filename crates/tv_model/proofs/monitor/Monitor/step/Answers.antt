@@ -1,5 +1,7 @@
-use Rattle.tv_model.proofs.Bursts.{one-step}
+use Rattle.tv_model.specs.Parts.{seen}
+use Rattle.tv_model.proofs.Keeping.{steps_kept}
 use Rattle.tv_model.proofs.monitor.Monitor.step.Goals as goal
 
-pub returns-in-Ok : goal.returns-in-Ok
-returns-in-Ok c = one-step c.args.self.now c.burst.new.self c.args.entry.now c.in-Hart.hart c.in-Ok.field-0 c.in-Hart.is c.in-Ok.ensures
+pub invariant_of-self : goal.invariant_of-self
+invariant_of-self g c =
+    steps_kept (seen c.self.inside.parts) (seen c.step.new.parts) c.args.entry.now c.step.result c.self.invariant c.step.ensures

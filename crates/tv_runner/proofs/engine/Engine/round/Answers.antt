@@ -1,9 +1,7 @@
 use Rattle.std.proofs.Common.{arith}
-use Rattle.tv_journal.specs.Journals.{record_limit}
 use Rattle.std.specs.Result.{result_err}
-use Rattle.tv_spec.specs.Solo.{turns, solo_tick}
 use Rattle.tv_runner.specs.Parts.{Held, held}
-use Rattle.tv_runner.proofs.On.{part-twice}
+use Rattle.tv_runner.proofs.On.{part-round}
 use Rattle.tv_runner.proofs.engine.Engine.round.Goals as goal
 
 pub tick-requires-clause-few : goal.tick-requires-clause-few
@@ -14,7 +12,4 @@ returns-in-Ok-clause-part c =
     let old : Held = held c.args.self.now in
     let now : Held = held c.turns.new.self in
     let new : Held = held c.tick.new.self in
-    let setup = old.guest.setup in
-    let room = record_limit old.journal in
-    part-twice (turns setup room 0 setup.harts) solo_tick old now new (result_err c.tick.result) c.in-Ok.ensures.part
-    c.tick.ensures.part
+    part-round old now new (result_err c.tick.result) c.in-Ok.ensures.part c.tick.ensures.part

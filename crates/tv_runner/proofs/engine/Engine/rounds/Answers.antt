@@ -1,5 +1,4 @@
 use Rattle.std.proofs.Common.{[], ◌≡◌, sym, ◌∙◌}
-use Rattle.tv_journal.specs.Journals.{record_limit}
 use Rattle.tv_out.specs.Told.{appended}
 use Rattle.tv_spec.specs.Solo.{round}
 use Rattle.tv_runner.specs.Parts.{Held, held, IsPart, IsRoundWithin}
@@ -12,7 +11,7 @@ use Rattle.tv_runner.proofs.engine.Engine.rounds.Goals.{then-lost-via-then-lost,
 pub loop-stop-init : goal.loop-stop-init
 loop-stop-init g c =
     at-start (held c.args.self.now) (g.O.Sink.told c.args.out.now)
-    c.requires.runs c.requires.new c.requires.limit c.requires.empty
+    c.requires.alone c.requires.runs c.requires.new c.requires.limit c.requires.empty
 
 pub returns-then-lost-clause-rounds : goal.returns-then-lost-clause-rounds
 returns-then-lost-clause-rounds g c =
@@ -35,7 +34,7 @@ loop-stop-preserved g c =
     at-on old c.loop-stop.self.guest c.round.new.self.guest c.loop-stop.self.journal c.round.new.self.journal c.round.new.self.bytes.items
     (g.O.Sink.told c.args.out.now) (g.O.Sink.told c.loop-stop.out) (g.O.Sink.told c.put_all.new.sink)
     c.loop-stop.invariant
-    (went-on (IsPart (round here.guest.setup (record_limit here.journal)) here (held c.round.new.self)) c.round.result on
+    (went-on (IsPart round here (held c.round.new.self)) c.round.result on
     (rw c.clear.ensures at c.round.ensures.part))
     (went-on (IsRoundWithin here.guest c.round.new.self.guest here.journal c.round.new.self.journal) c.round.result on c.round.ensures.within)
     (went-out ((g.O.Sink.told c.put_all.new.sink).bytes ≡ appended (g.O.Sink.told c.loop-stop.out).bytes c.round.new.self.bytes.items) c.put_all.result out

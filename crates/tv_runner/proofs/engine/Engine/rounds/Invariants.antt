@@ -9,4 +9,4 @@ invariant-loop-stop g l = IsAt (record (held l.fn.self) { bytes = [] }) l.self.g
 
 -- the events that the run may still have
 abbrev pub decreases-loop-stop : goal.decreases-loop-stop
-decreases-loop-stop g l = l.fn.self.guest.setup.steps - l.self.guest.events
+decreases-loop-stop g l = l.fn.self.guest.steps - l.self.guest.events

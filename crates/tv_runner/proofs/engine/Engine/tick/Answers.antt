@@ -1,15 +1,15 @@
 use Rattle.std.proofs.Common.{[], ◌∷◌, sym, ◌∙◌}
 use Rattle.tv_journal.specs.declared.Entry.TheVariants as entry
-use Rattle.tv_runner.proofs.Events.{tick-full, tick-part, tick-answered, kept-all}
+use Rattle.tv_runner.specs.Parts.{held}
+use Rattle.tv_runner.proofs.Events.{tick-full, tick-part, kept-all}
 use Rattle.tv_runner.proofs.engine.Engine.tick.Goals as goal
 
 pub returns-then-not-has_room-clause-part : goal.returns-then-not-has_room-clause-part
 returns-then-not-has_room-clause-part c =
-    tick-full c.args.self.now.guest c.args.self.now.journal c.args.self.now.bytes.items c.requires.runs (sym c.has_room.ensures ∙ c.if-not-has_room.true)
+    tick-full (held c.args.self.now) c.requires.alone c.requires.runs (sym c.has_room.ensures ∙ c.if-not-has_room.true)
 
 pub returns-clause-part : goal.returns-clause-part
 returns-clause-part c =
     let room = sym c.has_room.ensures ∙ c.if-not-has_room.false in
-    tick-part c.args.self.now.guest c.tick-ticked.new.self c.args.self.now.journal c.push-added.new.self c.args.self.now.bytes.items
-    (tick-answered c.args.self.now.guest c.tick-ticked.new.self c.tick-ticked.result c.requires.runs c.requires.unticked c.tick-ticked.ensures)
-    room (kept-all c.args.self.now.journal c.push-added.new.self (entry.Tick 64 ∷ []) c.push-added.result room c.push-added.ensures)
+    tick-part (held c.args.self.now) c.tick.new.self c.push-added.new.self c.requires.alone c.requires.runs c.requires.unticked room c.tick.ensures
+    (kept-all c.args.self.now.journal c.push-added.new.self (entry.Tick 64 ∷ []) c.push-added.result room c.push-added.ensures)

@@ -1,8 +1,6 @@
 use Rattle.std.specs.Prelude.{◌-◌, ◌≤◌, None}
-use Rattle.tv_journal.specs.Journals.{record_limit}
-use Rattle.tv_spec.specs.Solo.{turn}
 use Rattle.tv_runner.proofs.On.{IsOn}
-use Rattle.tv_runner.specs.Parts.{Held, held, IsWithin}
+use Rattle.tv_runner.specs.Parts.{Held, held, IsWithin, turn_of}
 use Rattle.tv_runner.proofs.engine.Engine.turn.Given as goal
 
 -- the events so far, and those that are left
@@ -12,7 +10,7 @@ invariant-loop-left l =
     let now : Held = held l.self in
     record {
       few : l.left ≤ 64;
-      on : IsOn (turn l.fn.self.guest.setup (record_limit l.fn.self.journal) l.hart 64) (turn l.fn.self.guest.setup (record_limit l.fn.self.journal) l.hart l.left) old now;
+      on : IsOn (turn_of l.hart 64) (turn_of l.hart l.left) old now;
       within : IsWithin (64 - l.left) old now None;
     }
 

@@ -1,0 +1,6 @@
+pub mod Acting
+pub mod Bursts
+pub mod First
+pub mod Guests
+pub mod Ports
+pub mod Quiet

@@ -1,0 +1,6 @@
+use Rattle.tv_guest.proofs.Bursts.{IsAlong}
+use Rattle.tv_guest.proofs.burst.run_events.Given as goal
+
+-- the events so far
+abbrev pub invariant-loop-made : goal.invariant-loop-made
+invariant-loop-made l = IsAlong l.number l.fn.hart l.hart l.fn.local l.local l.most l.made

@@ -1,0 +1,4 @@
+pub mod Burst
+pub mod Direct
+pub mod Guest
+pub mod GuestState

@@ -1,6 +1,0 @@
-use Rattle.tv_model.proofs.Quiet.{AreWritten}
-use Rattle.tv_model.proofs.reservations.end_touched.Given as goal
-
--- those so far
-abbrev pub invariant-loop-i : goal.invariant-loop-i
-invariant-loop-i l = AreWritten l.fn.places l.places l.addr l.bytes l.i
