@@ -1,13 +1,15 @@
-//! Events of a hart at the registers of a device.
+//! Accesses of harts to memory and at the registers of a device.
 
 ghost use Rattle.std.specs.Prelude.{◌≡◌, ◌≤◌, IfOk};
 
 use super::burst::run_events;
 use super::local::Local;
 use std::alloc::Global;
+use std::process::Abort;
 use std::test::Fail;
 use tv_base::{Access, HartNo, RAM_BASE, RAM_BYTES_LEAST, Width};
-use tv_hart::Hart;
+use tv_exec::AmoOp;
+use tv_hart::{Hart, Loaded, Place, Stored};
 use tv_ram::Ram;
 use tv_spec::{Closed, Shown};
 
@@ -113,5 +115,121 @@ fn nothing_lies_in_a_slot_without_a_device(rt: HostRuntime) -> Result<(), Fail> 
     // the store traps to address 0, where each fetch traps again
     let (made, shown) = run_events(&mut hart, &mut local, number, 9);
     assert_eq!(rt; (made, said(shown)), (9, ("nothing", 0, 0)));
+    Ok(())
+}
+
+/// What a hart does with some bytes of memory.
+#[derive(Clone, Copy)]
+enum Act {
+    Store,
+    Amo,
+    Reserve,
+    Conditional,
+}
+
+/// Makes an access of the hart with this number, over these bytes; whether it was made and, where it is a conditional
+/// store, whether it was stored. What is written is 0x55 in the low byte and zeros above it.
+fn access(
+    rt: &impl Abort,
+    local: &mut Local,
+    (number, act, width, addr): (u8, Act, Width, u64),
+) -> bool {
+    let hart = HartNo::new(number).expect(rt, "a hart");
+    assert!(rt; addr % u64::from(width.bytes()) == 0);
+    if matches!(act, Act::Store) {
+        return matches!(local.store(hart, width, addr, 0x55), Stored::Done);
+    }
+    assert!(rt; matches!(width, Width::B4 | Width::B8));
+    match act {
+        Act::Store => false,
+        Act::Amo => local.amo(hart, width, addr, AmoOp::Or, 0).is_some(),
+        Act::Reserve => local.reserve(hart, width, addr).is_some(),
+        Act::Conditional => local.conditional(hart, width, addr, 0x55) == Some(true),
+    }
+}
+
+#[test]
+fn reservations_end_by_the_writes_of_others(rt: HostRuntime) -> Result<(), Fail> {
+    // Hart 0 has reserved the 8 bytes at 0x8000_0200. What is done then, and whether it may store to these bytes.
+    let rows: [((u8, Act, Width, u64), (Width, u64), bool); 15] = [
+        // A byte of another hart's in them; beside them; a number that stays the same.
+        ((1, Act::Store, Width::B1, 0x207), (Width::B8, 0x200), false),
+        ((1, Act::Store, Width::B1, 0x200), (Width::B8, 0x200), false),
+        ((1, Act::Store, Width::B1, 0x1ff), (Width::B8, 0x200), true),
+        ((1, Act::Store, Width::B1, 0x208), (Width::B8, 0x200), true),
+        ((7, Act::Amo, Width::B4, 0x204), (Width::B8, 0x200), false),
+        ((7, Act::Amo, Width::B8, 0x208), (Width::B8, 0x200), true),
+        // The hart's own writes.
+        ((0, Act::Store, Width::B8, 0x200), (Width::B8, 0x200), true),
+        ((0, Act::Amo, Width::B4, 0x200), (Width::B8, 0x200), true),
+        // Another hart's reservation, and its conditional store without one.
+        (
+            (1, Act::Reserve, Width::B8, 0x200),
+            (Width::B8, 0x200),
+            true,
+        ),
+        (
+            (1, Act::Conditional, Width::B8, 0x200),
+            (Width::B8, 0x200),
+            true,
+        ),
+        // The hart's own conditional store elsewhere, and a later reservation.
+        (
+            (0, Act::Conditional, Width::B8, 0x300),
+            (Width::B8, 0x200),
+            false,
+        ),
+        (
+            (0, Act::Reserve, Width::B4, 0x20c),
+            (Width::B8, 0x200),
+            false,
+        ),
+        (
+            (0, Act::Reserve, Width::B4, 0x20c),
+            (Width::B8, 0x208),
+            true,
+        ),
+        // A word of the 8 bytes, and the word after them.
+        ((0, Act::Store, Width::B8, 0x200), (Width::B4, 0x204), true),
+        ((0, Act::Store, Width::B8, 0x200), (Width::B4, 0x208), false),
+    ];
+    for (row, ((number, act, width, at), (wide, place), stored)) in rows.into_iter().enumerate() {
+        let mut local = Local::new(rt.alloc(), Ram::new(rt.alloc(), 0x1_0000)?, 8, 0)?;
+        let base = 0x8000_0000;
+        assert!(rt; at < 0x400 && place < 0x400);
+        let reserved = (0, Act::Reserve, Width::B8, base + 0x200);
+        assert!(rt; access(&rt, &mut local, reserved), "row {row}");
+        access(&rt, &mut local, (number, act, width, base + at));
+        let last = (0, Act::Conditional, wide, base + place);
+        assert_eq!(rt; access(&rt, &mut local, last), stored, "row {row}");
+        assert!(rt; !access(&rt, &mut local, last), "row {row}");
+    }
+    Ok(())
+}
+
+#[test]
+fn a_refused_conditional_store_changes_no_memory(rt: HostRuntime) -> Result<(), Fail> {
+    let mut local = Local::new(rt.alloc(), Ram::new(rt.alloc(), 0x1_0000)?, 8, 0)?;
+    let hart = HartNo::FIRST;
+    let base = 0x8000_0200;
+    access(&rt, &mut local, (0, Act::Reserve, Width::B8, base));
+    access(&rt, &mut local, (1, Act::Store, Width::B1, base + 7));
+    assert_eq!(rt;
+        local.conditional(hart, Width::B8, base, u64::MAX),
+        Some(false)
+    );
+    for (addr, held) in [(base - 8, 0), (base, 0x55 << 56), (base + 8, 0)] {
+        assert!(rt; addr % 8 == 0);
+        match local.load(hart, Width::B8, addr) {
+            Loaded::Value(value) => assert_eq!(rt; value, held),
+            Loaded::Held | Loaded::Full | Loaded::Nothing => assert!(rt; false),
+        }
+    }
+    // Beyond memory, and at a port, there is nothing to reserve.
+    for addr in [0x8001_0000, 0x0010_0000] {
+        assert!(rt; !access(&rt, &mut local, (0, Act::Reserve, Width::B4, addr)));
+        assert!(rt; !access(&rt, &mut local, (0, Act::Conditional, Width::B4, addr)));
+        assert!(rt; !access(&rt, &mut local, (0, Act::Amo, Width::B4, addr)));
+    }
     Ok(())
 }

@@ -15,7 +15,7 @@ use Rattle.tv_machine.specs.declared.machine.Machine.{Machine}
 use Rattle.tv_machine.specs.Valid.{IsValid}
 use Rattle.tv_plan.specs.Devices.{DeviceState}
 use Rattle.tv_spec.specs.declared.Pending.{Pending}
-use Rattle.tv_spec.specs.Setup.{DeviceSetup, Setup, device_setup, first_device, setup_of}
+use Rattle.tv_spec.specs.Setup.{DeviceSetup, Setup, device_setup, first_device, first_devices, setup_of}
 use Rattle.tv_spec.specs.State.{DeviceRun, State, first_in, first_run, first_state}
 use Rattle.tv_spec.proofs.Updates.{same_function}
 use Rattle.tv_spec.proofs.Valid.{HasRun, run_first, valid_ranges}
@@ -70,20 +70,31 @@ machine_left machine = devices_left 0 machine.device (no_grants machine.ram)
 
 -- 2. Devices
 
-first_at : (devices : List DeviceSpec) (j : ℕ) → get_or (map first_run (map (λ (d : DeviceSpec). first_device d.kind) devices)) j (first_run (first_in None)) ≡ first_run (first_in (slice_get devices j))
-first_at [] j = refl
-first_at (d ∷ devices) zero = refl
-first_at (d ∷ devices) (suc j) = first_at devices j
+-- where so many slots come before them
+first_at : (devices : List DeviceSpec) (n j : ℕ) → get_or (map first_run (first_devices n devices)) j (first_run (first_in 0 None)) ≡ first_run (first_in (n + j) (slice_get devices j))
+first_at [] n j = refl
+first_at (d ∷ devices) n zero =
+    let here : n ≡ n + 0 = omega arith in
+    ap (λ (slot : ℕ). first_run (first_device slot d)) here
+first_at (d ∷ devices) n (suc j) =
+    let there : n + 1 + j ≡ n + suc j = omega arith in
+    first_at devices (n + 1) j ∙ ap (λ (slot : ℕ). first_run (first_in slot (slice_get devices j))) there
+
+count_first : (devices : List DeviceSpec) (n : ℕ) → length (first_devices n devices) ≡ length devices
+count_first [] n = refl
+count_first (d ∷ devices) n = ap (λ (count : ℕ). suc count) (count_first devices (n + 1))
 
 first_runs : (slots : List SlotState) (machine : Machine) (states : List DeviceState) → map run_of slots ≡ map first_run states → AreDevices machine states
     → ◌≡◌ {A = ℕ → DeviceRun} (run_at slots) (first_state machine []).devs
 first_runs slots machine states runs devices = same_function _ _ (λ (j : ℕ).
-    run_mapped slots j ∙ ap (λ (rs : List DeviceRun). get_or rs j no_slot.run) (runs ∙ ap (λ (ds : List DeviceState). map first_run ds) devices) ∙ first_at machine.device j)
+    (let here : 0 + j ≡ j = omega arith in
+    run_mapped slots j ∙ ap (λ (rs : List DeviceRun). get_or rs j no_slot.run) (runs ∙ ap (λ (ds : List DeviceState). map first_run ds) devices) ∙ first_at machine.device 0 j
+    ∙ ap (λ (slot : ℕ). first_run (first_in slot (slice_get machine.device j))) here))
 
 count_runs : (slots : List SlotState) (machine : Machine) (states : List DeviceState) → map run_of slots ≡ map first_run states → AreDevices machine states → length slots ≡ length machine.device
 count_runs slots machine states runs devices =
     sym (length-map slots run_of) ∙ ap (λ (rs : List DeviceRun). length rs) runs ∙ length-map states first_run ∙ ap (λ (ds : List DeviceState). length ds) devices
-    ∙ length-map machine.device (λ (d : DeviceSpec). first_device d.kind)
+    ∙ count_first machine.device 0
 
 -- one more of them
 pub slots_more : {D : Type 0} → (state : D → DeviceState) (slots : List SlotState) (devices : List D) (i : ℕ) (none : D) (x : SlotState) → i < length devices

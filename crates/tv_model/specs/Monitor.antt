@@ -13,7 +13,7 @@ use Rattle.tv_spec.specs.declared.Shown.{Shown}
 use Rattle.tv_machine.specs.declared.kinds.DeviceSpec.{DeviceSpec}
 use Rattle.tv_plan.specs.Devices.{DeviceState}
 use Rattle.tv_spec.specs.Legal.{after}
-use Rattle.tv_spec.specs.Setup.{first_device, setup_of}
+use Rattle.tv_spec.specs.Setup.{first_devices, setup_of}
 use Rattle.tv_spec.specs.Shows.{bytes_of, debug_bytes, exit_status}
 use Rattle.tv_spec.specs.State.{first_state}
 use Rattle.tv_spec.specs.Step.{Move, made, ended, Can, event_of}
@@ -42,7 +42,7 @@ pub record IsFirst (m : MonitorState) (machine : Machine) (image : List ℕ) : T
 
 -- the devices of a machine's slots, each as a run begins
 abbrev pub AreDevices : Machine → List DeviceState → Type 0
-AreDevices machine devices = devices ≡ map (λ (d : DeviceSpec). first_device d.kind) machine.device
+AreDevices machine devices = devices ≡ first_devices 0 machine.device
 
 -- a step was made, and its byte at the debug port came after those before
 pub record IsStep (old new : MonitorState) (move : Move) : Type 0 where

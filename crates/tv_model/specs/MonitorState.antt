@@ -34,7 +34,7 @@ setup_in m = record { harts = length m.guest.harts; steps = m.guest.steps; devic
 
 -- in a slot without a device nothing is ever made
 abbrev pub no_slot : SlotState
-no_slot = record { run = first_run (first_in None); spare = true }
+no_slot = record { run = first_run (first_in 0 None); spare = true }
 
 abbrev pub run_at : List SlotState → ℕ → DeviceRun
 run_at slots slot = (slice_index_or slots slot no_slot).run

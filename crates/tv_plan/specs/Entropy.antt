@@ -12,6 +12,7 @@ use Rattle.tv_transport.specs.declared.registers.Effect.{Effect}
 use Rattle.tv_transport.specs.declared.registers.Effect.TheVariants as effect
 use Rattle.tv_transport.specs.declared.registers.TheConstants.{VERSION_1}
 use Rattle.tv_transport.specs.Registers.{Registers, first_registers, transport_load, transport_store, has, DRIVER_OK, DEVICE_NEEDS_RESET, queue_regs, broken, buffer_used}
+use Rattle.tv_plan.specs.Serving.{is_served, index_raised, interrupt_if, broken_off, stopped_as}
 use Rattle.tv_virtio.specs.declared.queue.QueueRegs.{QueueRegs}
 use Rattle.tv_virtio.specs.declared.queue.QueueStop.{QueueStop}
 use Rattle.tv_virtio.specs.declared.queue.QueueStop.TheVariants as stop
@@ -34,10 +35,6 @@ new_entropy = record { registers = first_registers 4 VERSION_1 1; last = replica
 -- an item comes only where no service is under way
 abbrev pub entropy_rested : EntropyState → EntropyState
 entropy_rested e = record e { serving = None }
-
--- a notification is served where the driver is ready and the device isn't broken
-abbrev pub is_served : Registers → Bool
-is_served r = has r.status DRIVER_OK && not (has r.status DEVICE_NEEDS_RESET)
 
 abbrev pub entropy_effect : EntropyState → Effect → EntropyState
 entropy_effect e (effect.Ready n) = record e { last = slice_set e.last n 0; used = slice_set e.used n 0 }
@@ -69,34 +66,22 @@ fill_pieces (p ∷ ps) got = random p.len >>= λ bytes. fill_pieces ps (got ++ b
 abbrev pub fill : ℕ → Script QueueStop (List ℕ)
 fill len = fill_pieces (pieces (record { addr = 0; len = len })) []
 
--- a broken service: the device needs a reset, and says so by an interrupt where the driver is ready
+-- a broken service: the device needs a reset
 abbrev pub entropy_broke : EntropyState → EntropyState
 entropy_broke e = record e { registers = broken e.registers; serving = None }
 
 abbrev pub entropy_broken : EntropyState → Script (End EntropyState) EntropyState
-entropy_broken e =
-    if has e.registers.status DRIVER_OK then Ask action.Raise (λ h. Stop (Idle (entropy_broke e)))
-    else Stop (Idle (entropy_broke e))
+entropy_broken e = broken_off e.registers (entropy_broke e)
 
--- what a stop means
 abbrev pub entropy_stopped : EntropyState → QueueStop → Script (End EntropyState) EntropyState
-entropy_stopped e stop.Empty = Stop (Idle (entropy_rested e))
-entropy_stopped e why = entropy_broken e
+entropy_stopped e = stopped_as (entropy_rested e) (entropy_broken e)
 
--- the interrupt, where it is wanted; a refusal of it is not followed by another
-abbrev pub entropy_raised : EntropyState → Heard → Script (End EntropyState) EntropyState
-entropy_raised e heard.Done = Over e
-entropy_raised e h = Stop (Idle (entropy_broke e))
-
+-- a buffer was used; a refused interrupt is not followed by another
 abbrev pub with_used_buffer : EntropyState → EntropyState
 with_used_buffer e = record e { registers = buffer_used e.registers }
 
 abbrev pub finish : EntropyState → Bool → Script (End EntropyState) EntropyState
-finish e wanted = if wanted then Ask action.Raise (entropy_raised (with_used_buffer e)) else Over (with_used_buffer e)
-
--- an index of 16 bits rises
-abbrev pub index_raised : List ℕ → ℕ → List ℕ
-index_raised xs n = slice_set xs n ((slice_index xs n + 1) % 65536)
+finish e wanted = let told : EntropyState = with_used_buffer e in interrupt_if wanted (Over told) (Stop (Idle (entropy_broke told)))
 
 -- the bytes go to the chain, and the chain to the used ring
 abbrev pub hand : EntropyState → QueueRegs → Took → List ℕ → Script (End EntropyState) EntropyState

@@ -1,5 +1,9 @@
-pub mod Memory
-pub mod Leaving
+pub mod Balloons
+pub mod Blocks
+pub mod Consoles
+pub mod Cuts
 pub mod Filled
-pub mod Takes
+pub mod Leaving
+pub mod Memory
 pub mod Rounds
+pub mod Takes

@@ -1,9 +1,17 @@
 -- Bytes of memory, and memory with bytes written.
-use Rattle.std.proofs.Common.{◌≡◌, ◌≤◌, ◌<◌, ◌+◌, ◌-◌, ◌∙◌, ℕ, zero, suc, List, [], ◌∷◌, ◌++◌, length, get_or, refl, ap, sym, arith, inl, inr}
+use Rattle.std.proofs.Common.{◌≡◌, ◌≤◌, ◌<◌, ◌+◌, ◌-◌, ◌==◌, ◌∙◌, ℕ, zero, suc, false, List, [], ◌∷◌, ◌++◌, length, get_or, refl, ap, sym, arith, inl, inr}
 use Rattle.std.proofs.lemmas.Bool.{cases_lt, lt-ltb, le-ltb}
+use Rattle.std.proofs.lemmas.Bool.Decides.{eqb_tells}
 use Rattle.std.proofs.lemmas.List.{get_or_default, get_or_past, get_or_append_left, get_or-append_right}
 use Rattle.tv_quiet.specs.World.{bytes_at, written}
 use Rattle.tv_quiet.specs.Meaning.{Apart}
+
+-- functions that agree everywhere are one
+pub same_function : {A : Type 0} → (f g : ℕ → A) → ((k : ℕ) → f k ≡ g k) → f ≡ g
+same_function f g same = λ i. λ k. same k i
+
+pub not_zero : (n : ℕ) → 1 ≤ n → (n == 0) ≡ false
+not_zero n h = elim (eqb_tells n 0) [ inl e ↦ absurd (omega (arith, h, e.1)) | inr e ↦ e.0 ]
 
 -- 1. Bytes
 
@@ -42,7 +50,7 @@ bytes_at_are f at (b ∷ bs) h =
 
 -- 2. Writes
 
-pub written_same : (f g : ℕ → ℕ) (at : ℕ) (bytes : List ℕ) (x : ℕ) → f x ≡ g x → written f at bytes x ≡ written g at bytes x
+pub written_same : {A : Type 0} → (f g : ℕ → A) (at : ℕ) (bytes : List A) (x : ℕ) → f x ≡ g x → written f at bytes x ≡ written g at bytes x
 unfolding written
 written_same f g at bytes x e = rw e refl
 
@@ -62,7 +70,7 @@ pub bytes_at_written : (m : ℕ → ℕ) (at : ℕ) (bytes : List ℕ) → bytes
 bytes_at_written m at bytes = bytes_at_are (written m at bytes) at bytes (λ i h. written_at m at bytes i h)
 
 -- one write after another that ends where it begins
-pub written_append : (m : ℕ → ℕ) (at : ℕ) (xs ys : List ℕ) (x : ℕ) → written (written m at xs) (at + length xs) ys x ≡ written m at (xs ++ ys) x
+pub written_append : {A : Type 0} → (m : ℕ → A) (at : ℕ) (xs ys : List A) (x : ℕ) → written (written m at xs) (at + length xs) ys x ≡ written m at (xs ++ ys) x
 unfolding written
 written_append m at xs ys x = elim (cases_lt x at) [
   | inl h ↦ rw (lt-ltb x (at + length xs) (omega arith), lt-ltb x at h) refl
@@ -75,7 +83,7 @@ written_append m at xs ys x = elim (cases_lt x at) [
 ]
 
 -- a write of no byte
-pub written_none : (m : ℕ → ℕ) (at : ℕ) (bytes : List ℕ) (x : ℕ) → length bytes ≡ 0 → written m at bytes x ≡ m x
+pub written_none : {A : Type 0} → (m : ℕ → A) (at : ℕ) (bytes : List A) (x : ℕ) → length bytes ≡ 0 → written m at bytes x ≡ m x
 unfolding written
 written_none m at bytes x e = elim (cases_lt x at) [
   | inl h ↦ rw (lt-ltb x at h) refl

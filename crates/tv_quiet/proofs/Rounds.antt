@@ -7,7 +7,8 @@ use Rattle.tv_virtio.specs.declared.queue.QueueStop.{QueueStop}
 use Rattle.tv_virtio.specs.declared.queue.Span.{Span}
 use Rattle.tv_virtio.specs.Spans.{total, pieces}
 use Rattle.tv_virtio.specs.Queue.{Took, take_chain, write_spans, hand_back, give_chain}
-use Rattle.tv_plan.specs.Entropy.{EntropyState, index_raised, fill_pieces, fill, entropy_stopped, with_used_buffer, finish, hand, answer, entropy_round}
+use Rattle.tv_plan.specs.Serving.{index_raised}
+use Rattle.tv_plan.specs.Entropy.{EntropyState, fill_pieces, fill, entropy_stopped, with_used_buffer, finish, hand, answer, entropy_round}
 use Rattle.tv_quiet.specs.World.{World, Performed, bytes_at, written, perform}
 use Rattle.tv_quiet.specs.Meaning.{Apart, AllApart, IsQuiet, GivenSo, EntropyMeans, element_place, index_place, spans_bytes, is_wanted, entropy_after}
 use Rattle.tv_quiet.proofs.Memory.{length_bytes_at, bytes_at-append, bytes_at_same, bytes_at_written, bytes_at_apart, written_outside}

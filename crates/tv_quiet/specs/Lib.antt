@@ -1,2 +1,5 @@
-pub mod World
+pub mod Balloons
+pub mod Blocks
+pub mod Consoles
 pub mod Meaning
+pub mod World

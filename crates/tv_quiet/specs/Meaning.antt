@@ -1,14 +1,15 @@
 -- What a round comes to on memory that nobody else writes meanwhile.
-use Rattle.std.specs.Prelude.{◌≡◌, ◌≤◌, ◌⊎◌, ℕ, ◌+◌, ◌*◌, ◌%◌, ◌^◌, ◌==◌, Bool, if◌then◌else◌, List, [], ◌∷◌, ◌++◌, length, slice_index}
+use Rattle.std.specs.Prelude.{◌≡◌, ◌≤◌, ◌⊎◌, ℕ, ◌+◌, ◌-◌, ◌*◌, ◌%◌, ◌^◌, ◌==◌, Bool, if◌then◌else◌, List, [], ◌∷◌, ◌++◌, length, slice_index}
 use Rattle.std.specs.List.{flat_map}
 use Rattle.byteorder.specs.Endian.{little_number, little_bytes}
 use Rattle.tv_script.specs.Scripts.{Over}
 use Rattle.tv_script.specs.Services.{End}
 use Rattle.tv_virtio.specs.declared.queue.QueueRegs.{QueueRegs}
 use Rattle.tv_virtio.specs.declared.queue.Span.{Span}
-use Rattle.tv_virtio.specs.Spans.{total}
+use Rattle.tv_virtio.specs.Spans.{total, first}
 use Rattle.tv_virtio.specs.Queue.{from, Took}
-use Rattle.tv_plan.specs.Entropy.{EntropyState, index_raised, with_used_buffer}
+use Rattle.tv_plan.specs.Serving.{index_raised}
+use Rattle.tv_plan.specs.Entropy.{EntropyState, with_used_buffer}
 use Rattle.tv_quiet.specs.World.{World, Performed, bytes_at}
 
 -- 1. Places of a queue (VIRTIO 1.2, sections 2.7.6 and 2.7.8)
@@ -53,6 +54,11 @@ NoneWraps (s ∷ ss) = (s.addr + s.len ≤ 2 ^ 64) × NoneWraps ss
 -- the bytes of buffers, in the order of the chain
 abbrev pub spans_bytes : (ℕ → ℕ) → List Span → List ℕ
 spans_bytes m ss = flat_map (λ s. bytes_at m s.addr s.len) ss
+
+-- the first bytes of buffers, at most so many
+abbrev pub cut : ℕ → List Span → List Span
+cut n [] = []
+cut n (s ∷ ss) = first n s ∷ cut (n - s.len) ss
 
 -- these bytes lie in the chain's writable buffers, the used ring has one more element and its index, and nothing else changed
 pub record GivenSo (before after : ℕ → ℕ) (q : QueueRegs) (used head : ℕ) (spans : List Span) (bytes : List ℕ) : Type 0 where

@@ -62,8 +62,8 @@ solo-first : (machine : Machine) (image : List ℕ) (guest : GuestState) (journa
 solo-first machine image guest journal answers first none empty =
     let old : Held = record { guest = guest; journal = journal; bytes = [] } in
     let harts_are : (state_at old (around_first machine answers)).harts ≡ first_hart = same_function _ _ first.each in
-    let devs_are : ◌≡◌ {A = ℕ → DeviceRun} (λ slot. first_run (first_in None)) (λ slot. first_run (first_in (slice_get machine.device slot))) =
-    ap (λ (ds : List DeviceSpec). λ (slot : ℕ). first_run (first_in (slice_get ds slot))) (sym none) in
+    let devs_are : ◌≡◌ {A = ℕ → DeviceRun} (λ slot. first_run (first_in slot None)) (λ slot. first_run (first_in slot (slice_get machine.device slot))) =
+    ap (λ (ds : List DeviceSpec). λ (slot : ℕ). first_run (first_in slot (slice_get ds slot))) (sym none) in
     let state_is : state_at old (around_first machine answers) ≡ first_state machine image = λ i. record {
       harts = harts_are i;
       pending = λ hart. None;

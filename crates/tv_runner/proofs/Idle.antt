@@ -27,7 +27,7 @@ use Rattle.tv_runner.specs.Parts.{Around, Held, IsAlone, ends_with_tick, state_a
 pub record IsIdle (s : State) : Type 0 where
   pub none : s.local.devices ≡ 0
   pub pending : ◌≡◌ {A = ℕ → Option Pending} s.pending (λ hart. None)
-  pub devs : ◌≡◌ {A = ℕ → DeviceRun} s.devs (λ slot. first_run (first_in None))
+  pub devs : ◌≡◌ {A = ℕ → DeviceRun} s.devs (λ slot. first_run (first_in slot None))
   pub ready : (hart : ℕ) → (s.harts hart).waits ≡ None
 
 -- 1. Events

@@ -64,7 +64,7 @@ abbrev pub state_at : Held → Around → State
 state_at held around = record {
   harts = λ hart. slice_index_or held.guest.harts hart (first_hart hart);
   pending = λ hart. None;
-  devs = λ slot. first_run (first_in None);
+  devs = λ slot. first_run (first_in slot None);
   local = held.guest.local;
   withdrawn = around.withdrawn;
   mode = held.guest.mode;

@@ -4,7 +4,8 @@ use Rattle.std.proofs.lemmas.List.{take_all}
 use Rattle.tv_virtio.specs.declared.queue.QueueRegs.{QueueRegs}
 use Rattle.tv_virtio.specs.Spans.{total}
 use Rattle.tv_vring.specs.Rings.{Ring, GaveSo, TookSo}
-use Rattle.tv_plan.specs.Entropy.{index_raised, hand, answer}
+use Rattle.tv_plan.specs.Serving.{index_raised}
+use Rattle.tv_plan.specs.Entropy.{hand, answer}
 use Rattle.tv_small.specs.Filling.{FilledSo}
 use Rattle.tv_small.specs.Parts.{Parts, state_of, took_of}
 use Rattle.tv_small.specs.declared.entropy.EntropyDevice.TheInside.{Inside}

@@ -9,7 +9,8 @@ ghost use Rattle.tv_virtio.specs.Spans.{total};
 ghost use Rattle.tv_virtio.specs.Queue.{IsServable};
 ghost use Rattle.tv_transport.specs.declared.registers.Effect.TheVariants as effect;
 ghost use Rattle.tv_regs.specs.Effects.{IsOfQueue};
-ghost use Rattle.tv_plan.specs.Entropy.{new_entropy, is_served, entropy_effect, entropy_acted, entropy_loaded, entropy_broke, entropy_broken, entropy_rested, entropy_round, finish, hand, answer};
+ghost use Rattle.tv_plan.specs.Serving.{is_served};
+ghost use Rattle.tv_plan.specs.Entropy.{new_entropy, entropy_effect, entropy_acted, entropy_loaded, entropy_broke, entropy_broken, entropy_rested, entropy_round, finish, hand, answer};
 ghost use Rattle.tv_small.specs.Parts.{state_of, took_of};
 
 use crate::random_bytes::fill;

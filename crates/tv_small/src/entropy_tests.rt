@@ -1,55 +1,23 @@
 //! The entropy device, with a driver that sets up its queue in a list of bytes and looks at what comes back.
 
 use crate::EntropyDevice;
-use crate::guest::{AVAILABLE, Asked, BUFFERS, DESCRIPTORS, Guest, MEMORY, RANDOM, USED};
 use std::process::Abort;
-use tv_base::Width;
-use tv_port::{Action, Device, Item, Served, next_after};
-
-const STATUS: u16 = 0x70;
-
-const INTERRUPT_STATUS: u16 = 0x60;
-
-const NOTIFY: u16 = 0x50;
+use tv_driver::{
+    AVAILABLE, Asked, BUFFERS, DESCRIPTORS, DRIVER_OK, Guest, INTERRUPT_STATUS, MEMORY, NEXT,
+    NOTIFY, Outside, RANDOM, STATUS, USED, WRITE, load, set_up, store,
+};
+use tv_port::{Action, Device, Served, next_after};
 
 const READY: u16 = 0x44;
 
-const NEXT: u16 = 1;
-
-const WRITE: u16 = 2;
-
-fn load(device: &mut EntropyDevice, off: u16) -> u64 {
-    let width = Width::B4;
-    device.act(0, &Item::Load { width, off }).value
-}
-
-fn store(device: &mut EntropyDevice, off: u16, value: u64) {
-    let width = Width::B4;
-    let _acted = device.act(0, &Item::Store { width, off, value });
-}
-
-/// Sets the queue up with 8 descriptors, and accepts VERSION_1. The driver isn't ready yet.
-fn set_up(device: &mut EntropyDevice) {
-    for (off, value) in [
-        (STATUS, 1),
-        (STATUS, 2),
-        (0x24, 1),
-        (0x20, 1),
-        (STATUS, 8),
-        (0x30, 0),
-        (0x38, 8),
-        (0x80, DESCRIPTORS),
-        (0x90, AVAILABLE),
-        (0xa0, USED),
-        (READY, 1),
-    ] {
-        store(device, off, value);
-    }
+/// Memory of zeros. There is nothing outside but random bytes.
+fn new_guest() -> Guest {
+    Guest::new(Outside::new(0, 0))
 }
 
 /// Stores DRIVER_OK, notifies the queue, and serves.
 fn serve(device: &mut EntropyDevice, guest: &mut Guest) -> Served {
-    store(device, STATUS, 4);
+    store(device, STATUS, DRIVER_OK);
     store(device, NOTIFY, 0);
     device.serve(guest)
 }
@@ -57,10 +25,10 @@ fn serve(device: &mut EntropyDevice, guest: &mut Guest) -> Served {
 #[test]
 fn a_round_of_4097_bytes(rt: HostRuntime) {
     let mut device = EntropyDevice::new(rt.alloc()).ok().expect(&rt, "memory");
-    let mut guest = Guest::new();
-    guest.describe(0, BUFFERS, 4097, WRITE, 0);
-    guest.offer(0, 0, 1);
-    set_up(&mut device);
+    let mut guest = new_guest();
+    guest.describe(0, 0, BUFFERS, 4097, WRITE, 0);
+    guest.offer(0, 0, 0, 1);
+    set_up(&mut device, 0, 1);
     assert_eq!(rt; load(&mut device, READY), 1);
     assert_eq!(rt; serve(&mut device, &mut guest), Served::Idle);
     let index = Asked::Read {
@@ -125,8 +93,8 @@ fn filled() -> [u8; 4099] {
 #[test]
 fn what_comes_back_of_each_chain(rt: HostRuntime) {
     let mut device = EntropyDevice::new(rt.alloc()).ok().expect(&rt, "memory");
-    let mut guest = Guest::new();
-    set_up(&mut device);
+    let mut guest = new_guest();
+    set_up(&mut device, 0, 1);
     // the lengths of a readable buffer and of two writable ones, whether the driver wants no interrupt, and the random pieces
     let rows: [(u32, u32, u32, bool, usize); 6] = [
         (0, 0, 0, false, 0),
@@ -141,13 +109,13 @@ fn what_comes_back_of_each_chain(rt: HostRuntime) {
         guest.bytes = [0; MEMORY];
         guest.asked.clear();
         let _ = guest.store(AVAILABLE, &[u8::from(is_quiet), 0]);
-        guest.describe(7, BUFFERS, readable, NEXT, 2);
-        guest.describe(2, BUFFERS, first, NEXT | WRITE, 4);
-        guest.describe(4, BUFFERS + 0x2800, second, WRITE, 0);
+        guest.describe(0, 7, BUFFERS, readable, NEXT, 2);
+        guest.describe(0, 2, BUFFERS, first, NEXT | WRITE, 4);
+        guest.describe(0, 4, BUFFERS + 0x2800, second, WRITE, 0);
         let at = USED + 4 + 8 * u64::from(index);
         let place = index;
         index = index.wrapping_add(1);
-        guest.offer(place, 7, index);
+        guest.offer(0, place, 7, index);
         assert_eq!(rt; serve(&mut device, &mut guest), Served::Idle);
         assert_eq!(rt; guest.load(USED + 2, 2), &index.to_le_bytes()[..]);
         assert_eq!(rt; guest.load(at, 4), &[7, 0, 0, 0][..]);
@@ -181,12 +149,12 @@ fn a_broken_service_needs_a_reset(rt: HostRuntime) {
     ];
     for (head, has_random, has_interrupt, actions, status, interrupt) in rows {
         let mut device = EntropyDevice::new(rt.alloc()).ok().expect(&rt, "memory");
-        let mut guest = Guest::new();
-        guest.has_random = has_random;
+        let mut guest = new_guest();
+        guest.outside.fails_after = if has_random { None } else { Some(0) };
         guest.has_interrupt = has_interrupt;
-        guest.describe(0, BUFFERS, 16, WRITE, 0);
-        guest.offer(0, head, 1);
-        set_up(&mut device);
+        guest.describe(0, 0, BUFFERS, 16, WRITE, 0);
+        guest.offer(0, 0, head, 1);
+        set_up(&mut device, 0, 1);
         assert_eq!(rt; serve(&mut device, &mut guest), Served::Idle);
         assert_eq!(rt; guest.asked.len(), actions);
         assert_eq!(rt; guest.asked.last().copied(), Some(Asked::Raise));
@@ -195,10 +163,9 @@ fn a_broken_service_needs_a_reset(rt: HostRuntime) {
         assert_eq!(rt; serve(&mut device, &mut guest), Served::Idle);
         assert_eq!(rt; guest.asked.len(), actions);
         store(&mut device, STATUS, 0);
-        set_up(&mut device);
-        guest.has_random = true;
+        set_up(&mut device, 0, 1);
         guest.has_interrupt = true;
-        guest.offer(0, 0, 1);
+        guest.offer(0, 0, 0, 1);
         assert_eq!(rt; serve(&mut device, &mut guest), Served::Idle);
         assert_eq!(rt; load(&mut device, STATUS), 0x0f);
         assert_eq!(rt; guest.load(USED, 4), &[0, 0, 1, 0][..]);
@@ -208,10 +175,10 @@ fn a_broken_service_needs_a_reset(rt: HostRuntime) {
 #[test]
 fn a_notification_is_served_only_where_it_can_be(rt: HostRuntime) {
     let mut device = EntropyDevice::new(rt.alloc()).ok().expect(&rt, "memory");
-    let mut guest = Guest::new();
-    guest.describe(0, BUFFERS, 16, WRITE, 0);
-    guest.offer(0, 0, 1);
-    set_up(&mut device);
+    let mut guest = new_guest();
+    guest.describe(0, 0, BUFFERS, 16, WRITE, 0);
+    guest.offer(0, 0, 0, 1);
+    set_up(&mut device, 0, 1);
     store(&mut device, NOTIFY, 0);
     assert_eq!(rt; device.serve(&mut guest), Served::Idle);
     store(&mut device, STATUS, 4);
@@ -237,11 +204,11 @@ fn a_notification_is_served_only_where_it_can_be(rt: HostRuntime) {
 fn each_end_of_the_port_ends_a_service(rt: HostRuntime) {
     for left in 0..11 {
         let mut device = EntropyDevice::new(rt.alloc()).ok().expect(&rt, "memory");
-        let mut guest = Guest::new();
-        guest.describe(0, BUFFERS, 16, WRITE, 0);
-        guest.offer(0, 0, 1);
+        let mut guest = new_guest();
+        guest.describe(0, 0, BUFFERS, 16, WRITE, 0);
+        guest.offer(0, 0, 0, 1);
         guest.left = left;
-        set_up(&mut device);
+        set_up(&mut device, 0, 1);
         let served = serve(&mut device, &mut guest);
         assert_eq!(rt;
             served,
@@ -257,10 +224,10 @@ fn each_end_of_the_port_ends_a_service(rt: HostRuntime) {
 #[test]
 fn a_copy_goes_on_where_the_device_is(rt: HostRuntime) {
     let mut device = EntropyDevice::new(rt.alloc()).ok().expect(&rt, "memory");
-    let mut guest = Guest::new();
-    guest.describe(0, BUFFERS, 16, WRITE, 0);
-    guest.offer(0, 0, 1);
-    set_up(&mut device);
+    let mut guest = new_guest();
+    guest.describe(0, 0, BUFFERS, 16, WRITE, 0);
+    guest.offer(0, 0, 0, 1);
+    set_up(&mut device, 0, 1);
     assert_eq!(rt; serve(&mut device, &mut guest), Served::Idle);
     store(&mut device, NOTIFY, 0);
     let next = next_after(&device, &[], rt.alloc())
@@ -272,7 +239,7 @@ fn a_copy_goes_on_where_the_device_is(rt: HostRuntime) {
     };
     assert!(rt; is_index);
     let mut copy = device.copy(rt.alloc()).ok().expect(&rt, "memory");
-    guest.offer(1, 0, 2);
+    guest.offer(0, 1, 0, 2);
     assert_eq!(rt; copy.serve(&mut guest), Served::Idle);
     assert_eq!(rt; guest.load(USED + 2, 2), &[2, 0][..]);
     assert_eq!(rt; load(&mut copy, STATUS), 15);

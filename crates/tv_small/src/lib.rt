@@ -11,6 +11,4 @@ pub use probe::Probe;
 #[cfg(test)]
 mod entropy_tests;
 #[cfg(test)]
-mod guest;
-#[cfg(test)]
 mod probe_tests;

@@ -1,10 +1,13 @@
 -- What the steps of a run read of its machine.
-use Rattle.std.specs.Prelude.{ℕ, List, map, Bool}
+use Rattle.std.specs.Prelude.{ℕ, ◌+◌, List, [], ◌∷◌, map, Bool}
 use Rattle.tv_machine.specs.declared.kinds.DeviceKind.{DeviceKind}
 use Rattle.tv_machine.specs.declared.kinds.DeviceKind.TheVariants as kind
 use Rattle.tv_machine.specs.declared.kinds.DeviceSpec.{DeviceSpec}
 use Rattle.tv_machine.specs.declared.kinds.MemRange.{MemRange}
 use Rattle.tv_machine.specs.declared.machine.Machine.{Machine}
+use Rattle.tv_plan.specs.Balloon.{new_balloon}
+use Rattle.tv_plan.specs.Block.{new_block}
+use Rattle.tv_plan.specs.Console.{new_console}
 use Rattle.tv_plan.specs.Devices.{DeviceState}
 use Rattle.tv_plan.specs.Entropy.{new_entropy}
 use Rattle.tv_plan.specs.Probe.{new_probe}
@@ -20,14 +23,21 @@ pub record Setup : Type 0 where
   pub steps : ℕ
   pub devices : List DeviceSetup
 
--- a device of each kind as a run begins. The block device, the console and the balloon aren't built yet: no machine file has
--- one, and a probe stands here in its place
-abbrev pub first_device : DeviceKind → DeviceState
-first_device kind.Block = DeviceState.Probe new_probe
-first_device kind.Console = DeviceState.Probe new_probe
-first_device kind.Entropy = DeviceState.Entropy new_entropy
-first_device kind.Balloon = DeviceState.Probe new_probe
-first_device kind.Probe = DeviceState.Probe new_probe
+-- the device of a slot as a run begins, by its kind
+abbrev pub device_of : DeviceKind → ℕ → DeviceSpec → DeviceState
+device_of kind.Block slot device = DeviceState.Block (new_block slot device.sectors device.readonly)
+device_of kind.Console slot device = DeviceState.Console new_console
+device_of kind.Entropy slot device = DeviceState.Entropy new_entropy
+device_of kind.Balloon slot device = DeviceState.Balloon new_balloon
+device_of kind.Probe slot device = DeviceState.Probe new_probe
+
+abbrev pub first_device : ℕ → DeviceSpec → DeviceState
+first_device slot device = device_of device.kind slot device
+
+-- those of slots in a row
+abbrev pub first_devices : ℕ → List DeviceSpec → List DeviceState
+first_devices slot [] = []
+first_devices slot (device ∷ devices) = first_device slot device ∷ first_devices (slot + 1) devices
 
 abbrev pub device_setup : DeviceSpec → DeviceSetup
 device_setup device = record { mem = device.mem; irq = device.irq }

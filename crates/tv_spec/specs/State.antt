@@ -37,9 +37,9 @@ first_run device =
     record { made = []; acted = 0; device = device; got = []; phase = Phase.Quiet; due = []; replied = [] }
 
 -- in a slot without a device nothing is ever made; a probe stands there, without grants
-abbrev pub first_in : Option DeviceSpec → DeviceState
-first_in None = DeviceState.Probe new_probe
-first_in (Some device) = first_device device.kind
+abbrev pub first_in : ℕ → Option DeviceSpec → DeviceState
+first_in slot None = DeviceState.Probe new_probe
+first_in slot (Some device) = first_device slot device
 
 abbrev pub no_device : DeviceSetup
 no_device = record { mem = []; irq = false }
@@ -67,7 +67,7 @@ abbrev pub first_state : Machine → List ℕ → State
 first_state machine image = record {
   harts = first_hart;
   pending = λ hart. None;
-  devs = λ slot. first_run (first_in (slice_get machine.device slot));
+  devs = λ slot. first_run (first_in slot (slice_get machine.device slot));
   local = first_local machine.harts (length machine.device) (with_image machine.ram image);
   withdrawn = replicate (machine.ram / PAGE_BYTES) false;
   mode = mode.Running;
