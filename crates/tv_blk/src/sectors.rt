@@ -50,11 +50,10 @@ pub fn read_sectors<P: Port>(
     ensures left { P.left port.new ≤ P.left port.old }
 {
     for n in 0..count {
-        match read_sector(port, (first + u64::from(n)) as u32) {
-            Ok(Some(bytes)) => ring.answer(bytes.as_slice()),
-            Ok(None) => return Ok(false),
-            Err(stop) => return Err(stop),
-        }
+        let Some(bytes) = read_sector(port, (first + u64::from(n)) as u32)? else {
+            return Ok(false);
+        };
+        ring.answer(bytes.as_slice());
     }
     Ok(true)
 }
@@ -97,10 +96,8 @@ pub fn write_sectors<P: Port>(bytes: &[u8], first: u64, port: &mut P) -> Result<
     ensures left { P.left port.new ≤ P.left port.old }
 {
     for n in 0..bytes.len() / SECTOR_BYTES {
-        match write_sector(port, (first + n as u64) as u32, Bytes::of(part(bytes, n))) {
-            Ok(true) => {}
-            Ok(false) => return Ok(false),
-            Err(stop) => return Err(stop),
+        if !write_sector(port, (first + n as u64) as u32, Bytes::of(part(bytes, n)))? {
+            return Ok(false);
         }
     }
     Ok(true)

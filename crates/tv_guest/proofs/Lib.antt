@@ -2,5 +2,6 @@ pub mod Acting
 pub mod Bursts
 pub mod First
 pub mod Guests
+pub mod Looks
 pub mod Ports
 pub mod Quiet

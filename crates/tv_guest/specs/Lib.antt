@@ -2,3 +2,4 @@ pub mod Burst
 pub mod Direct
 pub mod Guest
 pub mod GuestState
+pub mod Looks

@@ -11,9 +11,11 @@ ghost use Rattle.tv_guest.specs.Direct.{granted_to};
 ghost use Rattle.tv_spec.specs.Step.{mode_by, end_at, end_shown};
 ghost use Rattle.tv_guest.specs.Burst.{IsBurstOf};
 ghost use Rattle.tv_guest.specs.Guest.{IsFirst, AreFirst};
+ghost use Rattle.tv_guest.specs.Looks.{LooksSo};
 
 use crate::burst::run_events;
 use crate::local::Local;
+use crate::peek::look;
 use std::alloc::Global;
 use std::marker::Model;
 use tv_base::{DevNo, HartNo, Memory, RAM_BASE, Why};
@@ -121,6 +123,25 @@ impl Guest {
         self.events += made.0;
         self.mode = mode_after(made.1, self.events == self.steps);
         made
+    }
+
+    /// What the next event of a hart would show where nothing is closed. No event is made. It is nothing where the hart would make
+    /// none, since it isn't there, waits for a load, or the run doesn't go on.
+    #[cold]
+    pub fn looks(&self, hart: HartNo) -> Shown
+        ensures { LooksSo self.now hart result }
+    {
+        let number = usize::from(hart.get());
+        if number >= self.harts.len() {
+            return Shown::Nothing;
+        }
+        if !is_running(self.mode) {
+            return Shown::Nothing;
+        }
+        if self.harts[number].waits() {
+            return Shown::Nothing;
+        }
+        look(&self.harts[number], &self.local, hart)
     }
 
     /// The value of the load that a hart waits for reaches it; of the value the low bytes of the load's width count. Nothing is

@@ -5,6 +5,7 @@
 mod burst;
 mod guest;
 mod local;
+mod peek;
 mod reservations;
 
 pub use guest::Guest;

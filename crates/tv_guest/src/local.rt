@@ -12,7 +12,8 @@ ghost use Rattle.tv_guest.specs.Direct.{granted_to, reservations_after};
 ghost use Rattle.tv_base.specs.Width.{width_bytes};
 ghost use Rattle.tv_bus.specs.Ranges.{range_at};
 ghost use Rattle.tv_hart.specs.Place.{OnNoStore};
-ghost use Rattle.tv_ram.specs.Memory.{is_inside};
+ghost use Rattle.tv_ram.specs.Memory.{is_inside, loaded as number_in};
+ghost use Rattle.tv_guest.specs.Looks.{port_at};
 ghost use Rattle.tv_intc.specs.Controller.{lines_of as external_line};
 ghost use Rattle.tv_intc.specs.Timer.{lines_of as timer_lines};
 ghost use Rattle.tv_spec.specs.Local.{device_ranges, finish_by, load_from, port_ranges, store_to};
@@ -118,6 +119,30 @@ impl Local {
             self.lines = lines_at(&self.timer, &self.intc, hart);
         }
         self.lines
+    }
+
+    /// The same, of what isn't changed.
+    pub fn lines_now(&self, hart: HartNo) -> u64
+        ensures { result ≡ lines_of self.now.local hart }
+    {
+        lines_at(&self.timer, &self.intc, hart)
+    }
+
+    /// The word of 4 bytes at an address of memory; `None` where a byte of it lies elsewhere.
+    pub fn word(&self, addr: u64) -> Option<u32>
+        ensures { result ≡ number_in self.now.local.ram addr 4 }
+    {
+        self.ram.word(addr)
+    }
+
+    /// Where an access past memory leads, with its offset there; `None` where it leads to memory or nowhere.
+    pub fn port(&self, width: Width, addr: u64) -> Option<(Target, u32)>
+        ensures { result ≡ port_at (length self.now.local.ram) self.now.local.devices addr (width_bytes width) }
+    {
+        match self.ram.load(addr, width) {
+            Some(_) => None,
+            None => self.bus.find(addr, width),
+        }
     }
 
     /// Closes this from now on, and nothing else.
@@ -418,10 +443,7 @@ fn local_bus(alloc: Global, devices: u8) -> Result<Bus, Memory>
             unreachable!();
         };
         let base = 0x1000_1000 + 0x1000 * u64::from(number);
-        match add_port(&mut bus, alloc, base, 0x1000, Target::Device(slot)) {
-            Ok(()) => {}
-            Err(Memory) => return Err(Memory),
-        }
+        add_port(&mut bus, alloc, base, 0x1000, Target::Device(slot))?;
     }
     Ok(bus)
 }
@@ -450,7 +472,7 @@ fn add_port(bus: &mut Bus, alloc: Global, base: u64, len: u32, target: Target) -
 }
 
 /// The low bytes of a value.
-fn low_bytes(width: Width, value: u64) -> u64
+pub fn low_bytes(width: Width, value: u64) -> u64
     ensures { result ≡ value % 256 ^ width_bytes width }
 {
     match width {
@@ -462,7 +484,7 @@ fn low_bytes(width: Width, value: u64) -> u64
 }
 
 /// What a store to the finisher asks for.
-fn finish_of_width(width: Width, value: u64) -> Option<Finish>
+pub fn finish_of_width(width: Width, value: u64) -> Option<Finish>
     ensures { result ≡ finish_by width value }
 {
     match width {

@@ -4,6 +4,7 @@ ghost use Rattle.std.specs.Prelude.{◌≡◌, ◌≤◌, IfOk};
 
 use super::burst::run_events;
 use super::local::Local;
+use super::peek::look;
 use std::alloc::Global;
 use std::process::Abort;
 use std::test::Fail;
@@ -115,6 +116,36 @@ fn nothing_lies_in_a_slot_without_a_device(rt: HostRuntime) -> Result<(), Fail> 
     // the store traps to address 0, where each fetch traps again
     let (made, shown) = run_events(&mut hart, &mut local, number, 9);
     assert_eq!(rt; (made, said(shown)), (9, ("nothing", 0, 0)));
+    Ok(())
+}
+
+/// Looks at what the next event shows, where its access is closed and where it is not, makes that event, and compares both.
+fn look_and_make(rt: &impl Abort, hart: &mut Hart, local: &mut Local, want: (&str, u8, u16))
+    requires { local.old.shown ≡ Shown.Nothing }
+    ensures { local.new.shown ≡ Shown.Nothing }
+{
+    let number = HartNo::FIRST;
+    assert!(rt; !hart.waits());
+    local.close(&closed(true, true));
+    assert_eq!(rt; said(look(hart, local, number)), want);
+    local.close(&closed(false, false));
+    assert_eq!(rt; said(look(hart, local, number)), want);
+    let (made, shown) = run_events(hart, local, number, 1);
+    assert_eq!(rt; (made, said(shown)), (1, want));
+    if hart.waits() {
+        hart.finish_load(0);
+    }
+}
+
+#[test]
+fn what_an_event_would_show_is_seen_without_making_it(rt: HostRuntime) -> Result<(), Fail> {
+    let mut local = place(rt.alloc(), 1)?;
+    let mut hart = Hart::new(HartNo::FIRST);
+    // lui, the store, the load and the jump.
+    look_and_make(&rt, &mut hart, &mut local, ("nothing", 0, 0));
+    look_and_make(&rt, &mut hart, &mut local, ("store", 0, 16));
+    look_and_make(&rt, &mut hart, &mut local, ("load", 0, 16));
+    look_and_make(&rt, &mut hart, &mut local, ("nothing", 0, 0));
     Ok(())
 }
 

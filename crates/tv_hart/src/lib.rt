@@ -92,6 +92,18 @@ impl Hart {
         }
     }
 
+    /// The same hart again.
+    pub fn copy(&self) -> Hart
+        ensures { result ≡ self.now }
+    {
+        Hart {
+            registers: self.registers,
+            pc: self.pc,
+            csrs: self.csrs,
+            waiting: self.waiting,
+        }
+    }
+
     /// Whether the hart waits for the value of a load.
     pub fn waits(&self) -> bool
         ensures { result ≡ is_some self.now.waits }

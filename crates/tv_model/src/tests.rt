@@ -2,7 +2,7 @@
 
 ghost use Rattle.std.specs.Prelude.{◌≡◌, ◌≤◌, [], ◌∷◌, IfOk, length};
 ghost use Rattle.tv_journal.specs.Journals.{IsEntry};
-ghost use Rattle.tv_machine.specs.Valid.{IsValid};
+ghost use Rattle.tv_machine.specs.Valid.{IsValid, IsWithin};
 ghost use Rattle.tv_plan.specs.Devices.{DeviceState};
 ghost use Rattle.tv_plan.specs.Probe.{new_probe};
 ghost use Rattle.tv_model.specs.Monitor.{AreDevices};
@@ -295,8 +295,9 @@ const ALARMING: [u32; 11] = [
     0x100004b7, 0x00848023, 0x0000006f,
 ];
 
-/// The flat machine with two harts and one probe, which may read the first page of memory and has an interrupt source.
-fn with_probe(alloc: Global) -> Result<Machine, Memory>
+/// The flat machine with two harts and one probe, which has these rights to the first page of memory and an interrupt source.
+fn with_probe(alloc: Global, rights: Rights) -> Result<Machine, Memory>
+    requires { IsWithin 1 3 rights.0 }
     ensures { IfOk result (λ machine. (machine.ram ≡ FLAT_RAM_BYTES) × AreDevices machine (DeviceState.Probe new_probe ∷ []) × IsValid machine) }
 {
     let mut machine = two_harts(alloc)?;
@@ -304,7 +305,7 @@ fn with_probe(alloc: Global) -> Result<Machine, Memory>
     let range = MemRange {
         base: RAM_BASE,
         len: PAGE_BYTES,
-        rights: Rights::READ,
+        rights,
     };
     mem.push(alloc, range)?;
     let probe = DeviceSpec {
@@ -396,7 +397,7 @@ fn a_loaded_value_reaches_its_hart(rt: HostRuntime) -> Result<(), Fail> {
     use Move::{Deliver, Events, Got, Reply, Send, ServeMem, Take};
     let image = image_of(&rt, &READING)?;
     assert!(rt; image.len() <= FLAT_RAM_BYTES as usize);
-    let machine = with_probe(rt.alloc())?;
+    let machine = with_probe(rt.alloc(), Rights::READ)?;
     let devices = first_probe(rt.alloc());
     let mut monitor = Monitor::new(rt.alloc(), &machine, &devices, &image)?;
     for made in [
@@ -418,6 +419,103 @@ fn a_loaded_value_reaches_its_hart(rt: HostRuntime) -> Result<(), Fail> {
     }
     // the low byte of auipc x6, 0
     assert_eq!(rt; monitor.console(), "\x17".as_bytes());
+    Ok(())
+}
+
+/// lui x5, 0x10001; sd x0, 0(x5); jal x0, -4: a store to the probe with each second event.
+const STORING: [u32; 3] = [0x100012b7, 0x0002b023, 0xffdff06f];
+
+/// The machine with a probe, for runs of three million events.
+fn for_long_runs(alloc: Global) -> Result<Machine, Memory>
+    ensures { IfOk result (λ machine. (machine.ram ≡ FLAT_RAM_BYTES) × AreDevices machine (DeviceState.Probe new_probe ∷ []) × IsValid machine) }
+{
+    let mut machine = with_probe(alloc, Rights::READ)?;
+    machine.steps = 3_000_000;
+    Ok(machine)
+}
+
+#[test]
+fn a_million_items_are_taken(rt: HostRuntime) -> Result<(), Fail> {
+    let count = 1_000_000u32;
+    let device = DevNo::new(0).expect(&rt, "a device");
+    let mut journal = Journal::new(rt.alloc(), 2 * count, 0)?;
+    for _ in 0..count {
+        assert!(rt; journal.events() < 10_000_000 && journal.outer().is_none());
+        assert!(rt; journal.push_events(HartNo::FIRST, 2));
+        assert!(rt; journal.events() < 10_000_000 && journal.outer().is_none());
+        assert!(rt; journal.push(&Entry::Take(device)));
+    }
+    let image = image_of(&rt, &STORING)?;
+    assert!(rt; image.len() <= FLAT_RAM_BYTES as usize);
+    let machine = for_long_runs(rt.alloc())?;
+    let replayed = replay(
+        rt.alloc(),
+        &machine,
+        &first_probe(rt.alloc()),
+        &image,
+        &journal,
+    )?;
+    assert_eq!(rt; replayed, Replayed::Legal(None));
+    Ok(())
+}
+
+/// A guest that reserves 8 bytes, has the probe act, and puts what comes of it: LR.D at 0x8000_0200; then ADDR, LEN, a DATA
+/// of bytes 0x41 and GO, of which [`probing`] fills in what is 0 here, and a load of RESULT. It puts the digit of RESULT,
+/// that of an SC.D at 0x8000_0200, the bytes at 0x8000_0207, 0x8000_0FFE and 0x8000_0FFF, and the digit of another SC.D.
+const PROBING: [u32; 34] = [
+    0x00000317, 0x20030e13, 0x100e342f, 0x100012b7, 0x000003b7, 0x006383b3, 0x00038393, 0x0072b023,
+    0x00000393, 0x0072a423, 0x414143b7, 0x14138393, 0x0072b823, 0x00000393, 0x0072ac23, 0x01c2a483,
+    0x100005b7, 0x03048493, 0x00958023, 0x186e342f, 0x03040413, 0x00858023, 0x007e4483, 0x00958023,
+    0x00001637, 0x00660633, 0xffe64483, 0x00958023, 0xfff64483, 0x00958023, 0x186e342f, 0x03040413,
+    0x00858023, 0x0000006f,
+];
+
+/// That guest with an address, as `lui` and `addi` have its parts above 0x8000_0000, and with LEN and GO.
+fn probing(upper: u32, lower: u32, len: u32, go: u32) -> [u32; 34] {
+    let mut words = PROBING;
+    words[4] = 0x3b7 | (upper & 0xf_ffff) << 12;
+    words[6] = 0x38393 | (lower & 0xfff) << 20;
+    words[8] = 0x393 | (len & 0xfff) << 20;
+    words[13] = 0x393 | (go & 0xfff) << 20;
+    words
+}
+
+#[test]
+fn writes_of_a_device_are_done_where_they_are_granted(rt: HostRuntime) -> Result<(), Fail> {
+    use Move::{Deliver, Events, Got, Reply, Send, ServeMem, Take};
+    let service = [Send, ServeMem, Got];
+    // The parts of the address, LEN, GO, whether an action is asked for, and what the guest puts.
+    let rows: [(u32, u32, u32, u32, bool, &[u8]); 7] = [
+        // A byte of the reserved ones, and nothing.
+        (0, 0x207, 1, 2, true, b"11A\0\01"),
+        (0, 0x207, 1, 0, false, b"00\0\0\01"),
+        // The bytes before and behind them.
+        (0, 0x1f8, 8, 2, true, b"10\0\0\01"),
+        (0, 0x208, 8, 2, true, b"10\0\0\01"),
+        // Across the end of what is granted, and up to it.
+        (1, 0xffe, 4, 2, true, b"20\0\0\01"),
+        (1, 0xffe, 2, 2, true, b"10\0AA1"),
+        // More than a probe writes at once.
+        (0, 0x207, 9, 2, false, b"20\0\0\01"),
+    ];
+    for (row, (upper, lower, len, go, is_asked, put)) in rows.into_iter().enumerate() {
+        let image = image_of(&rt, &probing(upper, lower, len, go))?;
+        assert!(rt; image.len() <= FLAT_RAM_BYTES as usize);
+        let machine = with_probe(rt.alloc(), Rights::WRITE)?;
+        let devices = first_probe(rt.alloc());
+        let mut monitor = Monitor::new(rt.alloc(), &machine, &devices, &image)?;
+        let before = [Events(16), Take, Take, Take, Take];
+        let after = [Take, Reply, Deliver, Events(17)];
+        let between: &[Move] = if is_asked { &service } else { &[] };
+        for part in [&before[..], between, &after[..]] {
+            for &made in part {
+                for _ in 0..times(made) {
+                    assert!(rt; monitor.step(&entry_of(&rt, made)).is_ok(), "row {row}");
+                }
+            }
+        }
+        assert_eq!(rt; monitor.console(), put, "row {row}");
+    }
     Ok(())
 }
 
@@ -629,7 +727,7 @@ fn moves_of_a_device_keep_their_order(rt: HostRuntime) -> Result<(), Fail> {
         // A move of a device comes between two ticks, or a tick is refused.
         (&READING, &[Events(8), Tick, Take, Tick, Tick], Illegal(4)),
     ];
-    let machine = with_probe(rt.alloc())?;
+    let machine = with_probe(rt.alloc(), Rights::READ)?;
     let devices = first_probe(rt.alloc());
     for (row, (words, moves, want)) in rows.into_iter().enumerate() {
         let image = image_of(&rt, words)?;

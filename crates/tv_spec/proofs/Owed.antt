@@ -82,7 +82,7 @@ pub record IsSmall (setup : Setup) : Type 0 where
   pub devices : length setup.devices ≤ 8
 
 -- a hart that waits is one of the machine
-waiting_hart : (setup : Setup) (s : State) (h : ℕ) (p : Pending) → IsSmall setup → Sound setup s → s.pending h ≡ Some p → h < 8
+pub waiting_hart : (setup : Setup) (s : State) (h : ℕ) (p : Pending) → IsSmall setup → Sound setup s → s.pending h ≡ Some p → h < 8
 waiting_hart setup s h p small S is = elim (lt_or_le h 8) [
   | inl below ↦ below
   | inr above ↦ let none : s.pending h ≡ None = S.few h (let most : setup.harts ≤ 8 = small.harts in omega arith) in cc
@@ -111,7 +111,7 @@ owed_issued s h (shown.Access d how) below none =
     most_two (access.Load width off) = omega arith
     most_two (access.Store width off value) = omega arith
 
-pending_of_reached : (s : State) (ws : List Due) → (reached s ws).pending ≡ s.pending
+pub pending_of_reached : (s : State) (ws : List Due) → (reached s ws).pending ≡ s.pending
 pending_of_reached s [] = refl
 pending_of_reached s (w ∷ ws) = by_maker w.maker w.answer
   where
@@ -120,16 +120,16 @@ pending_of_reached s (w ∷ ws) = by_maker w.maker w.answer
     by_maker (Maker.Hart h) (Answer.Value v) = refl
     by_maker (Maker.Hart h) (Answer.Verdict v) = refl
 
-owed_took : (s : State) (d : ℕ) (m : Made) (a : Acted) → (s.devs d).phase ≡ Phase.Quiet → owed (took_as s d m a) ≡ owed s
+pub owed_took : (s : State) (d : ℕ) (m : Made) (a : Acted) → (s.devs d).phase ≡ Phase.Quiet → owed (took_as s d m a) ≡ owed s
 owed_took s d m a quiet =
     let ws : List Due = due_for (s.devs d).acted m.maker (answers_of m.item a) in
     rw (pending_of_reached s ws, devs_of_reached s ws, phases_kept s.devs d (with_act (s.devs d) m a) (sym quiet)) refl
 
 -- a device's phase changes
-owed_phase : (s : State) (d : ℕ) (v : DeviceRun) → d < 8 → owed (put_dev s d v) + owed_to_phase (s.devs d).phase ≡ owed s + owed_to_phase v.phase
+pub owed_phase : (s : State) (d : ℕ) (v : DeviceRun) → d < 8 → owed (put_dev s d v) + owed_to_phase (s.devs d).phase ≡ owed s + owed_to_phase v.phase
 owed_phase s d v below = let r = phases_changed s.devs d v below in omega arith
 
-owed_served : (setup : Setup) (s : State) (d : ℕ) (n : Next DeviceState) → d < 8 → (s.devs d).phase ≡ Phase.Sent → owed (served setup s d n) ≡ owed s
+pub owed_served : (setup : Setup) (s : State) (d : ℕ) (n : Next DeviceState) → d < 8 → (s.devs d).phase ≡ Phase.Sent → owed (served setup s d n) ≡ owed s
 owed_served setup s d (Rests state) below sent = refl
 owed_served setup s d (Loses state) below sent = refl
 owed_served setup s d (Asks action) below sent =
@@ -138,7 +138,7 @@ owed_served setup s d (Asks action) below sent =
     let one : owed_to_phase (s.devs d).phase ≡ 1 = rw sent refl in
     omega arith
 
-one_owed : (p : Phase) → IsServed p → owed_to_phase p ≡ 1
+pub one_owed : (p : Phase) → IsServed p → owed_to_phase p ≡ 1
 one_owed Phase.Quiet is = absurd is
 one_owed Phase.Sent is = absurd is
 one_owed (Phase.Served reply) is = refl
@@ -283,7 +283,7 @@ grown_alone (entry.Hart hart) = refl
 grown_alone e = refl
 
 -- an entry more is at most a record more
-records_more : (es : List Entry) (e : Entry) → record_count (es ++ e ∷ []) ≤ record_count es + 1
+pub records_more : (es : List Entry) (e : Entry) → record_count (es ++ e ∷ []) ≤ record_count es + 1
 unfolding record_count records_of
 records_more [] e = let r = length_joined e [] in let most = grown_most e (first_run_of []) in omega arith
 records_more (x ∷ []) e =

@@ -2,10 +2,11 @@ use Rattle.std.proofs.Common.{rules, ◌+◌, ◌++◌, ℕ, List, Option, [], r
 use Rattle.tv_blk.proofs.Places.{read_begin, read_next, read_end}
 use Rattle.tv_blk.proofs.sectors.read_sectors.Goals as goal
 use Rattle.tv_plan.specs.Block.{read_sectors}
+use Rattle.tv_blk.specs.Reading.{with_content}
 use Rattle.tv_script.proofs.Scripts.{reached_here}
 use Rattle.tv_script.specs.Scripts.{Script, Reached}
 use Rattle.tv_virtio.specs.declared.queue.QueueStop.{QueueStop}
-use Rattle.tv_vring.proofs.Runs.{call_awaited, call_leads, call_stops}
+use Rattle.tv_vring.proofs.Runs.{call_awaited, call_leads, call_passed, passed_on}
 use Rattle.tv_vring.specs.Rings.{Ring, with_answered}
 
 pub loop-n-init : goal.loop-n-init
@@ -26,26 +27,26 @@ read_sector-requires g c =
           (read_next c.args.count c.args.first c.loop-n.n (c.args.first + c.from.result) c.loop-n.ring.answered (omega arith) (ap (λ (k : ℕ). c.args.first + k) c.from.ensures));
     }
 
-pub returns-in-Ok-None-clause-ran : goal.returns-in-Ok-None-clause-ran
-returns-in-Ok-None-clause-ran g c =
+pub returns-in_default-clause-ran : goal.returns-in_default-clause-ran
+returns-in_default-clause-ran g c =
     call_leads _ _ _ _ _ _ _ _ _ _ g.met.P.Port.joins c.loop-n.invariant.0.here
     (read_next c.args.count c.args.first c.loop-n.n (c.args.first + c.from.result) c.loop-n.ring.answered (omega arith) (ap (λ (k : ℕ). c.args.first + k) c.from.ensures))
-    (rw c.in-Ok-None.field-0-is at c.in-Ok-None.ensures.ran) refl
+    (rw c.in_default.is at c.in_ok-bytes.ensures.ran) refl
 
-pub returns-in-Err-clause-ran : goal.returns-in-Err-clause-ran
-returns-in-Err-clause-ran g c =
-    call_stops _ g.P.Port.over g.P.Port.stopped _ _ _ _ _ _ _ _ g.met.P.Port.joins c.loop-n.invariant.0.here
+pub returns-in_err-bytes-clause-ran : goal.returns-in_err-bytes-clause-ran
+returns-in_err-bytes-clause-ran g c =
+    call_passed _ _ _ _ _ _ _ _ _ _ _ _ g.met.P.Port.joins c.loop-n.invariant.0.here
     (read_next c.args.count c.args.first c.loop-n.n (c.args.first + c.from.result) c.loop-n.ring.answered (omega arith) (ap (λ (k : ℕ). c.args.first + k) c.from.ensures))
-    c.in-Err.ensures.ran
+    c.in_err-bytes.ensures.ran (passed_on (with_content c.loop-n.ring.answered) c.from_residual.result c.in_err-bytes.field-0.0 refl c.from_residual.ensures)
 
 pub loop-n-preserved : goal.loop-n-preserved
 loop-n-preserved g c = (
   rw (c.answer.ensures, c.as_slice.ensures.bytes) (record {
     here = call_leads _ _ _ _ _ _ _ _ _ _ g.met.P.Port.joins c.loop-n.invariant.0.here
         (read_next c.args.count c.args.first c.loop-n.n (c.args.first + c.from.result) c.loop-n.ring.answered (omega arith) (ap (λ (k : ℕ). c.args.first + k) c.from.ensures))
-        (rw c.in-Ok-Some.field-0-is at c.in-Ok-Some.ensures.ran) refl;
-    ring = ap (λ (r : Ring). with_answered r (c.loop-n.ring.answered ++ c.in-Ok-Some.bytes)) c.loop-n.invariant.0.ring;
-    len = (let len = rw c.in-Ok-Some.field-0-is at c.in-Ok-Some.ensures.len in omega (arith, length-append {A = ℕ}, len));
+        (rw c.in-Some.is at c.in_ok-bytes.ensures.ran) refl;
+    ring = ap (λ (r : Ring). with_answered r (c.loop-n.ring.answered ++ c.in-Some.bytes)) c.loop-n.invariant.0.ring;
+    len = (let len = rw c.in-Some.is at c.in_ok-bytes.ensures.len in omega (arith, length-append {A = ℕ}, len));
   }),
   omega arith,
 )
