@@ -1,5 +1,5 @@
 -- A slot that has a device.
-use Rattle.std.proofs.Common.{◌≡◌, ℕ, zero, suc, ◌<◌, ◌≤◌, List, [], ◌∷◌, length, get_or, Option, Some, None, IfSome, refl, ap, sym, ◌∙◌, arith}
+use Rattle.std.proofs.Common.{◌≡◌, ℕ, zero, suc, ◌<◌, ◌≤◌, List, [], ◌∷◌, length, get_or, Option, Some, IfSome, refl, ap, sym, ◌∙◌, arith}
 use Rattle.std.specs.List.{slice_get}
 use Rattle.tv_base.specs.declared.limits.TheConstants.{DISK_SECTORS}
 use Rattle.tv_machine.specs.declared.kinds.DeviceSpec.{DeviceSpec}

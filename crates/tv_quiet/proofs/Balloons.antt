@@ -1,19 +1,16 @@
 -- A round of the balloon's first two queues.
-use Rattle.std.proofs.Common.{◌≡◌, ◌≤◌, ◌+◌, ◌*◌, ◌%◌, ◌==◌, ◌∙◌, ℕ, Bool, true, false, if◌then◌else◌, List, [], ◌∷◌, length, slice_index, Some, refl, ap, sym, subst, arith}
+use Rattle.std.proofs.Common.{◌≡◌, ◌+◌, ◌*◌, ◌%◌, ◌==◌, ◌∙◌, ℕ, Bool, true, false, if◌then◌else◌, List, [], ◌∷◌, length, slice_index, Some, refl, ap, sym, subst, arith}
 use Rattle.std.proofs.lemmas.List.{length-replicate}
 use Rattle.byteorder.specs.Endian.{little_number}
 use Rattle.tv_base.specs.declared.limits.TheConstants.{PAGE_BYTES}
-use Rattle.tv_items.specs.declared.action.Action.{Action}
 use Rattle.tv_script.specs.Scripts.{Script, Over, ◌>>=◌, caught}
 use Rattle.tv_script.specs.Services.{End}
 use Rattle.tv_transport.specs.Registers.{has}
 use Rattle.tv_virtio.specs.declared.queue.QueueRegs.{QueueRegs}
-use Rattle.tv_virtio.specs.declared.queue.QueueStop.{QueueStop}
-use Rattle.tv_virtio.specs.Spans.{total}
 use Rattle.tv_virtio.specs.Queue.{Took, take_chain, give_chain}
 use Rattle.tv_plan.specs.Serving.{index_raised}
-use Rattle.tv_plan.specs.Balloon.{BalloonState, MUST_TELL_HOST, balloon_finish, balloon_hand, balloon_part, balloon_round, balloon_stopped, deflate, each_page, inflate, move_pages, page_action, page_numbers}
-use Rattle.tv_quiet.specs.World.{World, Performed, bytes_at, perform, written, zeros}
+use Rattle.tv_plan.specs.Balloon.{BalloonState, MUST_TELL_HOST, balloon_finish, balloon_hand, balloon_part, balloon_round, balloon_stopped, deflate, each_page, inflate, page_action, page_numbers}
+use Rattle.tv_quiet.specs.World.{World, bytes_at, perform, written, zeros}
 use Rattle.tv_quiet.specs.Meaning.{Apart, GivenSo, IsQuiet, cut, is_wanted}
 use Rattle.tv_quiet.specs.Balloons.{DeflatedSo, InflatedSo, PagesApart, balloon_after, marked, zeroed}
 use Rattle.tv_quiet.proofs.Memory.{bytes_at_apart}

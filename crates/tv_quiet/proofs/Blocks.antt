@@ -1,9 +1,9 @@
 -- A round of the block device.
-use Rattle.std.proofs.Common.{◌≡◌, ◌≤◌, ◌+◌, ◌-◌, ◌/◌, ◌==◌, ◌&&◌, ◌||◌, ◌∙◌, nat_lt, not, ℕ, zero, suc, Bool, true, false, if◌then◌else◌, List, [], ◌∷◌, ◌++◌, length, take, drop, replicate, slice_index, Option, Some, None, refl, ap, sym, arith, append_assoc, append-nil, length-append}
+use Rattle.std.proofs.Common.{◌≡◌, ◌≤◌, ◌+◌, ◌-◌, ◌/◌, ◌==◌, ◌&&◌, ◌∙◌, not, ℕ, zero, suc, Bool, true, false, if◌then◌else◌, List, [], ◌∷◌, ◌++◌, length, take, drop, replicate, slice_index, Option, Some, refl, ap, sym, arith, append_assoc, append-nil, length-append}
 use Rattle.std.proofs.lemmas.Bool.{le-ltb}
 use Rattle.std.proofs.lemmas.List.{length-take-le, length-replicate}
 use Rattle.byteorder.specs.Endian.{little_number}
-use Rattle.tv_script.specs.Scripts.{Script, Over, ◌>>=◌, caught}
+use Rattle.tv_script.specs.Scripts.{Script, Over, ◌>>=◌}
 use Rattle.tv_script.specs.Services.{End}
 use Rattle.tv_virtio.specs.declared.queue.QueueRegs.{QueueRegs}
 use Rattle.tv_virtio.specs.declared.queue.QueueStop.{QueueStop}

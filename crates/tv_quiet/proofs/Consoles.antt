@@ -1,7 +1,6 @@
 -- A round of the console.
-use Rattle.std.proofs.Common.{◌≡◌, ◌≤◌, ◌+◌, ◌-◌, ◌==◌, ◌∙◌, min, ℕ, zero, suc, Bool, true, false, if◌then◌else◌, List, [], ◌∷◌, ◌++◌, length, take, drop, slice_index, Some, refl, ap, sym, arith, append_assoc, append-nil}
-use Rattle.std.proofs.lemmas.List.{length-drop, length-take, length-take-le, take-append-drop}
-use Rattle.tv_base.specs.declared.limits.TheConstants.{PIECE_BYTES}
+use Rattle.std.proofs.Common.{◌≡◌, ◌≤◌, ◌+◌, ◌∙◌, min, ℕ, zero, suc, Bool, true, false, if◌then◌else◌, List, [], ◌∷◌, ◌++◌, length, take, drop, slice_index, Some, refl, ap, sym, arith, append_assoc, append-nil}
+use Rattle.std.proofs.lemmas.List.{length-drop, length-take, take-append-drop}
 use Rattle.tv_script.specs.Scripts.{Script, Over, ◌>>=◌, caught}
 use Rattle.tv_script.specs.Services.{End}
 use Rattle.tv_virtio.specs.declared.queue.QueueRegs.{QueueRegs}

@@ -1,5 +1,5 @@
 -- A give of fewer bytes than the chain has room for.
-use Rattle.std.proofs.Common.{◌≡◌, ◌≤◌, ◌+◌, ◌-◌, ◌^◌, ◌∙◌, ℕ, Bool, min, List, [], ◌∷◌, length, take, drop, refl, ap, sym, arith, inl, inr}
+use Rattle.std.proofs.Common.{◌≡◌, ◌≤◌, ◌+◌, ◌-◌, ◌^◌, ◌∙◌, ℕ, min, List, [], ◌∷◌, length, take, drop, refl, ap, arith, inl, inr}
 use Rattle.std.proofs.lemmas.List.{length-drop}
 use Rattle.tv_script.specs.Scripts.{Script, Over, ◌>>=◌}
 use Rattle.tv_virtio.specs.declared.queue.QueueRegs.{QueueRegs}

@@ -1,5 +1,5 @@
 -- What a round of the console comes to on memory that nobody else writes meanwhile.
-use Rattle.std.specs.Prelude.{◌≡◌, ℕ, ◌+◌, min, if◌then◌else◌, List, [], ◌++◌, length, take, drop, slice_index}
+use Rattle.std.specs.Prelude.{◌≡◌, ℕ, ◌+◌, min, if◌then◌else◌, [], ◌++◌, length, take, drop, slice_index}
 use Rattle.tv_base.specs.declared.limits.TheConstants.{PIECE_BYTES}
 use Rattle.tv_script.specs.Scripts.{Over}
 use Rattle.tv_script.specs.Services.{End}
