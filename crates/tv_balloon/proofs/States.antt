@@ -1,18 +1,17 @@
--- The balloon's state after a give and after a take, and what it means to give a chain back with no byte in it.
-use Rattle.std.proofs.Common.{◌≡◌, ◌≤◌, ℕ, List, [], ◌∷◌, Bool, take, min, true, false, Some, None, refl, arith}
+-- The balloon's state after a give, and what it means to give a chain back with no byte in it.
+use Rattle.std.proofs.Common.{◌≡◌, ◌≤◌, ℕ, List, [], ◌∷◌, Bool, take, min, true, Some, None, refl, arith}
 use Rattle.tv_items.specs.declared.action.Action.TheVariants as action
 use Rattle.tv_script.specs.Scripts.{Over, Stop, Ask, Tell, ◌>>=◌}
 use Rattle.tv_script.specs.Services.{Idle}
-use Rattle.tv_transport.specs.Registers.{buffer_used}
 use Rattle.tv_virtio.specs.declared.queue.QueueRegs.{QueueRegs}
 use Rattle.tv_virtio.specs.declared.queue.Span.{Span}
 use Rattle.tv_virtio.specs.Spans.{piece_count}
 use Rattle.tv_virtio.specs.Queue.{write_spans, give_chain, hand_back}
 use Rattle.tv_vring.proofs.Pieces.{write_pieces_end}
-use Rattle.tv_vring.specs.Rings.{Ring, GaveSo, TookSo}
+use Rattle.tv_vring.specs.Rings.{Ring, GaveSo}
 use Rattle.tv_plan.specs.Serving.{index_raised, interrupted, broken_off}
-use Rattle.tv_plan.specs.Balloon.{BalloonState, verdict, balloon_rested, balloon_broke, balloon_broken, balloon_refused, balloon_finish, balloon_part, balloon_begins}
-use Rattle.tv_balloon.specs.Parts.{Parts, state_of, took_of}
+use Rattle.tv_plan.specs.Balloon.{BalloonState, verdict, balloon_rested, balloon_broke, balloon_broken, balloon_refused, balloon_finish, balloon_begins}
+use Rattle.tv_balloon.specs.Parts.{Parts, state_of}
 use Rattle.tv_balloon.specs.declared.balloon.Balloon.TheInside.{Inside}
 
 abbrev pub seen : Inside → Parts
@@ -29,16 +28,9 @@ seen b =
       interrupting = b.interrupting;
     }
 
-pub gave_state : (b : Parts) (q : QueueRegs) (new : Ring) → GaveSo b.ring new q true → record (state_of b) { used = index_raised b.ring.used q.number } ≡ state_of (record b { ring = new })
-gave_state b q new h = rw (h.used, h.last) refl
-
 pub gave_back : (b : Parts) (q : QueueRegs) (new : Ring) (wanted : Bool) → GaveSo b.ring new q true
     → balloon_finish (record (state_of b) { used = index_raised b.ring.used q.number; returning = None }) wanted ≡ balloon_finish (record (state_of (record b { ring = new })) { returning = None }) wanted
 gave_back b q new wanted h = rw (h.used, h.last) refl
-
-pub took_part : (b : Parts) (q : QueueRegs) (new : Ring) (head : ℕ) → TookSo b.ring new q true
-    → balloon_part (record (state_of b) { last = index_raised b.ring.last q.number }) q (took_of new head) ≡ balloon_part (state_of (record b { ring = new })) q (took_of new head)
-took_part b q new head h = rw (h.used, h.last) refl
 
 -- no byte is written to buffers
 no_byte : (spans : List Span) → write_spans spans [] ≡ Over tt
@@ -57,15 +49,6 @@ nothing_given q used head spans bytes = rw no_byte refl
 -- what the balloon does by its state
 pub broken_some : (b : BalloonState) (tag : ℕ) → b.waiting ≡ Some tag → balloon_broken b ≡ Tell (verdict tag 5 0) (broken_off b.registers (balloon_broke b))
 broken_some b tag e = rw e refl
-
-abbrev told : BalloonState → BalloonState
-told b = record b { registers = buffer_used b.registers }
-
-pub finish_wanted : (b : BalloonState) (wanted : Bool) → wanted ≡ true → balloon_finish b wanted ≡ Ask action.Raise (interrupted (Over (told b)) (balloon_refused (told b)))
-finish_wanted b wanted e = rw e refl
-
-pub finish_unwanted : (b : BalloonState) (wanted : Bool) → wanted ≡ false → balloon_finish b wanted ≡ Over (told b)
-finish_unwanted b wanted e = rw e refl
 
 pub begins_interrupting : (b : BalloonState) → b.interrupting ≡ true
     → balloon_begins b b.interrupting b.returning b.serving ≡ Ask action.Raise (interrupted (Stop (Idle (balloon_rested b))) (balloon_refused b))

@@ -2,8 +2,8 @@
 
 ghost use Rattle.std.specs.Prelude.{◌≡◌, ◌≤◌, ◌++◌, ◌||◌, not, is_ok, length, Some, None, IfOk, IfSome};
 ghost use Rattle.byteorder.specs.Endian.{little_bytes};
-ghost use Rattle.tv_script.specs.Scripts.{AwaitsAll, Over, Stop, Ask};
-ghost use Rattle.tv_script.specs.Services.{TurnedSo, IsLower, IsEnd, Idle};
+ghost use Rattle.tv_script.specs.Scripts.{AwaitsAll, Stop, Ask};
+ghost use Rattle.tv_script.specs.Services.{TurnedSo, IsEnd, Idle};
 ghost use Rattle.tv_script.specs.declared.service.Turned.{Turned};
 ghost use Rattle.tv_items.specs.declared.item.Item.TheVariants as item;
 ghost use Rattle.tv_items.specs.declared.action.Action.TheVariants as action;
@@ -12,10 +12,11 @@ ghost use Rattle.tv_vring.specs.Rings.{used_of, GaveSo};
 ghost use Rattle.tv_transport.specs.declared.registers.Effect.TheVariants as effect;
 ghost use Rattle.tv_transport.specs.Registers.{has};
 ghost use Rattle.tv_regs.specs.Effects.{IsOfQueue};
-ghost use Rattle.tv_plan.specs.Serving.{is_served, interrupted, broken_off};
-ghost use Rattle.tv_plan.specs.Balloon.{STATS_VQ, new_balloon, balloon_rested, verdict, is_some, balloon_effect, balloon_configured, has_stats, stats_waits, balloon_acted, refused_by, reset_decides, balloon_decides, balloon_loaded, balloon_broke, balloon_broken, balloon_refused, balloon_finish, page_action, balloon_hand, move_pages, balloon_holds, tell_stats, returned, balloon_part, balloon_round};
+ghost use Rattle.tv_serving.specs.Steps.{took_of};
+ghost use Rattle.tv_plan.specs.Serving.{interrupted};
+ghost use Rattle.tv_plan.specs.Balloon.{STATS_VQ, new_balloon, balloon_rested, verdict, is_some, balloon_effect, balloon_configured, has_stats, stats_waits, balloon_acted, refused_by, reset_decides, balloon_decides, balloon_loaded, balloon_refused, balloon_finish, page_action, move_pages, balloon_holds, tell_stats, returned};
 ghost use Rattle.tv_balloon.specs.Moving.{moving};
-ghost use Rattle.tv_balloon.specs.Parts.{state_of, took_of};
+ghost use Rattle.tv_balloon.specs.Parts.{state_of};
 
 use crate::moves::{Move, move_pages};
 use crate::statistics::statistics;
@@ -28,8 +29,12 @@ use tv_port::{
     serve_rounds,
 };
 use tv_regs::{Effect, QueueRegs, Regs};
+use tv_serving::{
+    Answers, Gives, Queued, break_off, finish, hand, is_ready, is_served, notified, serve_chain,
+    stopped,
+};
 use tv_transport::VERSION_1;
-use tv_vring::{QueueStop, Vring};
+use tv_vring::{QueueStop, Taken, Vring};
 
 /// The device type of a balloon (VIRTIO 1.2, section 5).
 const BALLOON: u32 = 5;
@@ -43,10 +48,6 @@ const INFLATE: u16 = 0;
 const STATISTICS: u16 = 2;
 /// The offset at which a driver stores how many pages the balloon holds.
 const ACTUAL: u16 = 0x104;
-/// The bit of the status by which a driver says that it is ready.
-const DRIVER_OK: u8 = 4;
-/// The bit of the status by which a device says that it needs a reset.
-const DEVICE_NEEDS_RESET: u8 = 64;
 /// The status of a command that was done.
 const DONE: u8 = 0;
 /// The status of a request for statistics that the guest can't answer.
@@ -157,7 +158,7 @@ impl Balloon {
         ensures value { result.value ≡ balloon_loaded (state_of self.old) item.now }
         ensures verdict { result.verdict ≡ balloon_decides (state_of self.old) tag item.now }
     {
-        self.settle();
+        self.rest();
         match *item {
             Item::Load { width, off } => Acted {
                 value: self.load(width, off),
@@ -183,15 +184,6 @@ impl Balloon {
                 verdict: None,
             },
         }
-    }
-
-    /// Nothing is due.
-    fn settle(&mut self)
-        ensures { state_of self.new ≡ balloon_rested (state_of self.old) }
-    {
-        self.serving = None;
-        self.returning = None;
-        self.interrupting = false;
     }
 
     /// The value of a load of `width` bytes at an offset.
@@ -263,19 +255,11 @@ impl Balloon {
     fn notify(&mut self, number: u16)
         ensures { state_of self.new ≡ balloon_effect (state_of self.old) (effect.Notify number) }
     {
-        if self.is_served() && !(number == STATISTICS && self.has_enough()) {
-            self.serving = self.regs.queue(number);
-        } else {
+        if number == STATISTICS && self.has_enough() {
             self.serving = None;
+        } else {
+            self.serving = notified(&self.regs, number);
         }
-    }
-
-    /// Whether notifications are served: the driver is ready, and the device needs no reset.
-    fn is_served(&self) -> bool
-        ensures { result ≡ is_served self.now.registers }
-    {
-        let status = self.regs.status();
-        status & DRIVER_OK == DRIVER_OK && status & DEVICE_NEEDS_RESET != DEVICE_NEEDS_RESET
     }
 
     /// Whether no chain of statistics is served: one is held, or the driver accepted none.
@@ -292,7 +276,7 @@ impl Balloon {
     {
         self.pages = pages;
         self.regs.changed();
-        self.interrupting = self.regs.status() & DRIVER_OK == DRIVER_OK;
+        self.interrupting = is_ready(&self.regs);
     }
 
     /// A request for statistics waits; or it is refused, since the driver isn't there or another request waits.
@@ -316,7 +300,7 @@ impl Balloon {
     fn has_stats(&self, queue: Option<QueueRegs>) -> bool
         ensures { result ≡ has_stats (state_of self.now) queue }
     {
-        queue.is_some() && self.is_served() && self.regs.accepted() & STATS_VQ == STATS_VQ
+        queue.is_some() && is_served(&self.regs) && self.regs.accepted() & STATS_VQ == STATS_VQ
     }
 
     /// A request waits, and the chain that is held goes back to its queue.
@@ -328,134 +312,6 @@ impl Balloon {
         if let Some(head) = self.held.take() {
             self.returning = Some(head);
             self.serving = queue;
-        }
-    }
-
-    /// Needs a reset, and ends the service. No request waits any more.
-    fn fail(&mut self)
-        ensures { state_of self.new ≡ balloon_broke (state_of self.old) }
-    {
-        self.regs.broken();
-        self.waiting = None;
-        self.settle();
-    }
-
-    /// A broken service: the request that waits is refused, the device needs a reset, and tells a driver that is ready so by an
-    /// interrupt.
-    #[tactic(auto, using(tv_script::proofs::Scripts::awaits_tell, tv_script::proofs::Scripts::awaits_told, tv_script::proofs::Turns::turned_told, tv_script::proofs::Scripts::reached_told, tv_script::proofs::Scripts::reached_here))]
-    fn broken<P: Port>(&mut self, port: &mut P) -> Turned
-        requires awaits { AwaitsAll (P.awaits port.old) (balloon_broken (state_of self.old)) }
-        ensures turned { TurnedSo P.moved P.over P.stopped port.old (balloon_broken (state_of self.old)) port.new (state_of self.new) result }
-        ensures end { IsEnd result }
-        ensures left { P.left port.new ≤ P.left port.old }
-    {
-        match self.waiting {
-            Some(tag) => {
-                port.tell(&plain_verdict(tag, UNANSWERED, 0));
-                self.break_off(port)
-            }
-            None => self.break_off(port),
-        }
-    }
-
-    /// Needs a reset, and tells a driver that is ready so by an interrupt.
-    #[tactic(auto, using(tv_script::proofs::Scripts::awaits_now, tv_script::proofs::Scripts::cut_here, tv_script::proofs::Scripts::reached_here), unfolding(tv_script::specs::Scripts::Follows))]
-    fn break_off<P: Port>(&mut self, port: &mut P) -> Turned
-        requires awaits { AwaitsAll (P.awaits port.old) (broken_off self.old.registers (balloon_broke (state_of self.old))) }
-        ensures turned { TurnedSo P.moved P.over P.stopped port.old (broken_off self.old.registers (balloon_broke (state_of self.old))) port.new (state_of self.new) result }
-        ensures end { IsEnd result }
-        ensures left { P.left port.new ≤ P.left port.old }
-    {
-        let is_ready = self.regs.status() & DRIVER_OK == DRIVER_OK;
-        self.fail();
-        if !is_ready {
-            return Turned::Idle;
-        }
-        match port.ask(&Action::Raise) {
-            Ok(_) => Turned::Idle,
-            Err(Ended) => Turned::Ended,
-        }
-    }
-
-    /// The end of a service whose interrupt was refused: no further one is raised.
-    #[tactic(auto, using(tv_script::proofs::Scripts::awaits_tell, tv_script::proofs::Scripts::awaits_told, tv_script::proofs::Turns::turned_told, tv_script::proofs::Scripts::reached_told, tv_script::proofs::Scripts::reached_here))]
-    fn refused<P: Port>(&mut self, port: &mut P) -> Turned
-        requires awaits { AwaitsAll (P.awaits port.old) (balloon_refused (state_of self.old)) }
-        ensures turned { TurnedSo P.moved P.over P.stopped port.old (balloon_refused (state_of self.old)) port.new (state_of self.new) result }
-        ensures end { IsEnd result }
-        ensures left { P.left port.new ≤ P.left port.old }
-    {
-        match self.waiting {
-            Some(tag) => port.tell(&plain_verdict(tag, UNANSWERED, 0)),
-            None => {}
-        }
-        self.fail();
-        Turned::Idle
-    }
-
-    /// No action is left.
-    fn rest(&mut self) -> Turned
-        ensures idle { result ≡ Turned.Idle }
-        ensures state { state_of self.new ≡ balloon_rested (state_of self.old) }
-    {
-        self.settle();
-        Turned::Idle
-    }
-
-    /// The end of a round whose chain was given back.
-    fn finish<P: Port>(&mut self, wanted: bool, port: &mut P) -> Turned
-        requires awaits { AwaitsAll (P.awaits port.old) (balloon_finish (state_of self.old) wanted) }
-        ensures turned { TurnedSo P.moved P.over P.stopped port.old (balloon_finish (state_of self.old) wanted) port.new (state_of self.new) result }
-        ensures left { P.left port.new ≤ P.left port.old }
-    {
-        self.regs.used();
-        if wanted {
-            self.raise(port)
-        } else {
-            Turned::Again
-        }
-    }
-
-    /// Raises the interrupt for a chain that was given back.
-    #[tactic(auto, using(tv_script::proofs::Scripts::awaits_now, tv_script::proofs::Scripts::cut_here, tv_script::proofs::Scripts::awaits_reply, tv_script::proofs::Turns::turned_reply))]
-    fn raise<P: Port>(&mut self, port: &mut P) -> Turned
-        requires awaits { AwaitsAll (P.awaits port.old) (Ask action.Raise (interrupted (Over (state_of self.old)) (balloon_refused (state_of self.old)))) }
-        ensures turned { TurnedSo P.moved P.over P.stopped port.old (Ask action.Raise (interrupted (Over (state_of self.old)) (balloon_refused (state_of self.old)))) port.new (state_of self.new) result }
-        ensures left { P.left port.new ≤ P.left port.old }
-    {
-        match port.ask(&Action::Raise) {
-            Ok(heard) => self.raised(&heard, port),
-            Err(Ended) => Turned::Ended,
-        }
-    }
-
-    /// Another round follows where the interrupt was raised.
-    #[tactic(auto, using(tv_script::proofs::Scripts::reached_here))]
-    fn raised<P: Port>(&mut self, heard: &Heard, port: &mut P) -> Turned
-        requires awaits { AwaitsAll (P.awaits port.old) (interrupted (Over (state_of self.old)) (balloon_refused (state_of self.old)) heard.now) }
-        ensures turned { TurnedSo P.moved P.over P.stopped port.old (interrupted (Over (state_of self.old)) (balloon_refused (state_of self.old)) heard.now) port.new (state_of self.new) result }
-        ensures left { P.left port.new ≤ P.left port.old }
-    {
-        match heard {
-            Heard::Done => Turned::Again,
-            _ => self.refused(port),
-        }
-    }
-
-    /// Gives the chain that was taken last back, with nothing written.
-    #[tactic(auto, using(tv_script::proofs::Scripts::caught_awaits, tv_script::proofs::Scripts::caught_cut, tv_script::proofs::Turns::turned_value, tv_script::proofs::Turns::turned_stop, tv_script::proofs::Scripts::reached_stopped, tv_script::proofs::Scripts::awaits_value, tv_script::proofs::Scripts::awaits_stop))]
-    fn hand<P: Port>(&mut self, queue: &QueueRegs, head: u16, port: &mut P) -> Turned
-        requires ring { IsServable queue.now }
-        requires awaits { AwaitsAll (P.awaits port.old) (balloon_hand (state_of self.old) queue.now (took_of self.old.ring head) tt) }
-        ensures turned { TurnedSo P.moved P.over P.stopped port.old (balloon_hand (state_of self.old) queue.now (took_of self.old.ring head) tt) port.new (state_of self.new) result }
-        ensures left { P.left port.new ≤ P.left port.old }
-    {
-        match self.ring.give(queue, port, head, 0) {
-            Ok(wanted) => self.finish(wanted, port),
-            Err(QueueStop::Ended) => Turned::Ended,
-            Err(QueueStop::Empty) => self.rest(),
-            Err(QueueStop::Refused) => self.broken(port),
-            Err(QueueStop::Malformed(_, _)) => self.broken(port),
         }
     }
 
@@ -472,7 +328,7 @@ impl Balloon {
     }
 
     /// Moves the pages of the chain that was taken last, and gives it back.
-    #[tactic(auto, using(tv_script::proofs::Scripts::caught_awaits, tv_script::proofs::Scripts::caught_cut, tv_script::proofs::Turns::turned_value, tv_script::proofs::Turns::turned_stop, tv_script::proofs::Scripts::reached_stopped, tv_script::proofs::Scripts::awaits_value, tv_script::proofs::Scripts::awaits_stop))]
+    #[tactic(auto, using(tv_script::proofs::Scripts::caught_awaits, tv_script::proofs::Scripts::awaits_value, tv_script::proofs::Turns::turned_value, tv_serving::proofs::Caught::stop_awaited, tv_serving::proofs::Caught::stop_turned))]
     fn serve_pages<P: Port>(&mut self, queue: &QueueRegs, head: u16, port: &mut P) -> Turned
         requires ring { IsServable queue.now }
         requires awaits { AwaitsAll (P.awaits port.old) (move_pages (state_of self.old) queue.now (took_of self.old.ring head)) }
@@ -480,11 +336,8 @@ impl Balloon {
         ensures left { P.left port.new ≤ P.left port.old }
     {
         match move_pages(self.direction(queue.number), self.ring.readable(), port) {
-            Ok(()) => self.hand(queue, head, port),
-            Err(QueueStop::Ended) => Turned::Ended,
-            Err(QueueStop::Empty) => self.rest(),
-            Err(QueueStop::Refused) => self.broken(port),
-            Err(QueueStop::Malformed(_, _)) => self.broken(port),
+            Ok(()) => hand(self, queue, head, 0, port),
+            Err(why) => stopped(self, why, port),
         }
     }
 
@@ -497,14 +350,14 @@ impl Balloon {
         ensures left { P.left port.new ≤ P.left port.old }
     {
         match self.waiting {
-            Some(tag) => self.answer(tag, head, port),
+            Some(tag) => self.answer_request(tag, head, port),
             None => self.hold(head),
         }
     }
 
     /// Answers the request with a tag by the statistics of the chain that was taken last, and holds the chain.
     #[tactic(auto, using(tv_script::proofs::Scripts::awaits_tell, tv_script::proofs::Scripts::reached_told))]
-    fn answer<P: Port>(&mut self, tag: u32, head: u16, port: &mut P) -> Turned
+    fn answer_request<P: Port>(&mut self, tag: u32, head: u16, port: &mut P) -> Turned
         requires awaits { AwaitsAll (P.awaits port.old) (tell_stats (state_of self.old) (took_of self.old.ring head) (Some tag)) }
         ensures turned { TurnedSo P.moved P.over P.stopped port.old (tell_stats (state_of self.old) (took_of self.old.ring head) (Some tag)) port.new (state_of self.new) result }
         ensures end { IsEnd result }
@@ -526,42 +379,12 @@ impl Balloon {
     {
         self.waiting = None;
         self.held = Some(head);
-        self.rest()
-    }
-
-    /// Serves the chain that was taken last.
-    fn serve_taken<P: Port>(&mut self, queue: &QueueRegs, head: u16, port: &mut P) -> Turned
-        requires ring { IsServable queue.now }
-        requires awaits { AwaitsAll (P.awaits port.old) (balloon_part (state_of self.old) queue.now (took_of self.old.ring head)) }
-        ensures turned { TurnedSo P.moved P.over P.stopped port.old (balloon_part (state_of self.old) queue.now (took_of self.old.ring head)) port.new (state_of self.new) result }
-        ensures left { P.left port.new ≤ P.left port.old }
-    {
-        if queue.number == STATISTICS {
-            self.serve_stats(head, port)
-        } else {
-            self.serve_pages(queue, head, port)
-        }
-    }
-
-    /// Takes the next chain, and serves it.
-    #[tactic(auto, using(tv_script::proofs::Scripts::caught_awaits, tv_script::proofs::Scripts::caught_cut, tv_script::proofs::Turns::turned_value, tv_script::proofs::Turns::turned_stop, tv_script::proofs::Scripts::reached_stopped, tv_script::proofs::Scripts::awaits_value, tv_script::proofs::Scripts::awaits_stop, tv_script::proofs::Turns::lower_end))]
-    fn serve_chain<P: Port>(&mut self, queue: &QueueRegs, port: &mut P) -> Turned
-        requires ring { IsServable queue.now }
-        requires awaits { AwaitsAll (P.awaits port.old) (balloon_round (state_of self.old) (Some queue.now)) }
-        ensures turned { TurnedSo P.moved P.over P.stopped port.old (balloon_round (state_of self.old) (Some queue.now)) port.new (state_of self.new) result }
-        ensures lower { IsLower (P.left port.old) (P.left port.new) result }
-    {
-        match self.ring.take(queue, port) {
-            Ok(taken) => self.serve_taken(queue, taken.head, port),
-            Err(QueueStop::Ended) => Turned::Ended,
-            Err(QueueStop::Empty) => self.rest(),
-            Err(QueueStop::Refused) => self.broken(port),
-            Err(QueueStop::Malformed(_, _)) => self.broken(port),
-        }
+        self.rest();
+        Turned::Idle
     }
 
     /// Gives the chain that was held back.
-    #[tactic(auto, using(tv_script::proofs::Scripts::caught_awaits, tv_script::proofs::Scripts::caught_cut, tv_script::proofs::Turns::turned_value, tv_script::proofs::Turns::turned_stop, tv_script::proofs::Scripts::reached_stopped, tv_script::proofs::Scripts::awaits_value, tv_script::proofs::Scripts::awaits_stop))]
+    #[tactic(auto, using(tv_script::proofs::Scripts::caught_awaits, tv_script::proofs::Scripts::awaits_value, tv_script::proofs::Turns::turned_value, tv_serving::proofs::Caught::stop_awaited, tv_serving::proofs::Caught::stop_turned))]
     fn give_held<P: Port>(&mut self, queue: &QueueRegs, head: u16, port: &mut P) -> Turned
         requires ring { IsServable queue.now }
         requires awaits { AwaitsAll (P.awaits port.old) (returned (state_of self.old) queue.now head) }
@@ -569,10 +392,7 @@ impl Balloon {
     {
         match give_nothing(&mut self.ring, queue, head, port) {
             Ok(wanted) => self.go_on(wanted, port),
-            Err(QueueStop::Ended) => Turned::Ended,
-            Err(QueueStop::Empty) => self.rest(),
-            Err(QueueStop::Refused) => self.broken(port),
-            Err(QueueStop::Malformed(_, _)) => self.broken(port),
+            Err(why) => stopped(self, why, port),
         }
     }
 
@@ -582,7 +402,7 @@ impl Balloon {
         ensures turned { TurnedSo P.moved P.over P.stopped port.old (balloon_finish (record (state_of self.old) { returning = None }) wanted) port.new (state_of self.new) result }
     {
         self.returning = None;
-        self.finish(wanted, port)
+        finish(self, wanted, port)
     }
 
     /// Raises the interrupt by which the driver learns a new number of pages.
@@ -604,8 +424,96 @@ impl Balloon {
         ensures turned { TurnedSo P.moved P.over P.stopped port.old (interrupted (Stop (Idle (balloon_rested (state_of self.old)))) (balloon_refused (state_of self.old)) heard.now) port.new (state_of self.new) result }
     {
         match heard {
-            Heard::Done => self.rest(),
+            Heard::Done => {
+                self.rest();
+                Turned::Idle
+            }
             _ => self.refused(port),
+        }
+    }
+}
+
+impl Queued for Balloon {
+    ghost use Rattle.tv_balloon.specs.Parts.{state_of, balloon_steps};
+    ghost use Rattle.tv_plan.specs.Balloon.{BalloonState};
+
+    ghost State = { BalloonState };
+
+    ghost state = { state_of };
+
+    ghost steps = { balloon_steps };
+
+    ghost ring = { λ b. b.ring };
+
+    ghost before = { state_of };
+
+    fn is_ready(&self) -> bool {
+        is_ready(&self.regs)
+    }
+
+    fn rest(&mut self) {
+        self.serving = None;
+        self.returning = None;
+        self.interrupting = false;
+    }
+
+    /// No request waits any more.
+    fn fail(&mut self) {
+        self.regs.broken();
+        self.waiting = None;
+        self.rest();
+    }
+}
+
+impl Gives for Balloon {
+    fn use_buffer(&mut self) {
+        self.regs.used();
+    }
+
+    /// The request that waits is refused first.
+    #[tactic(auto, using(tv_script::proofs::Scripts::awaits_tell, tv_script::proofs::Scripts::awaits_told, tv_script::proofs::Turns::turned_told, tv_script::proofs::Scripts::reached_told, tv_script::proofs::Scripts::reached_here))]
+    fn broken<P: Port>(&mut self, port: &mut P) -> Turned {
+        match self.waiting {
+            Some(tag) => {
+                port.tell(&plain_verdict(tag, UNANSWERED, 0));
+                break_off(self, port)
+            }
+            None => break_off(self, port),
+        }
+    }
+
+    /// The request that waits is refused first.
+    #[tactic(auto, using(tv_script::proofs::Scripts::awaits_tell, tv_script::proofs::Scripts::awaits_told, tv_script::proofs::Turns::turned_told, tv_script::proofs::Scripts::reached_told, tv_script::proofs::Scripts::reached_here))]
+    fn refused<P: Port>(&mut self, port: &mut P) -> Turned {
+        match self.waiting {
+            Some(tag) => port.tell(&plain_verdict(tag, UNANSWERED, 0)),
+            None => {}
+        }
+        self.fail();
+        Turned::Idle
+    }
+
+    fn take<P: Port>(&mut self, queue: &QueueRegs, port: &mut P) -> Result<Taken, QueueStop> {
+        self.ring.take(queue, port)
+    }
+
+    fn give<P: Port>(
+        &mut self,
+        queue: &QueueRegs,
+        port: &mut P,
+        head: u16,
+        len: u32,
+    ) -> Result<bool, QueueStop> {
+        self.ring.give(queue, port, head, len)
+    }
+}
+
+impl Answers for Balloon {
+    fn answer<P: Port>(&mut self, queue: &QueueRegs, taken: Taken, port: &mut P) -> Turned {
+        if queue.number == STATISTICS {
+            self.serve_stats(taken.head, port)
+        } else {
+            self.serve_pages(queue, taken.head, port)
         }
     }
 }
@@ -635,7 +543,7 @@ impl Rounds for Balloon {
     #[tactic(auto, using(tv_script::proofs::Scripts::reached_here))]
     fn round<P: Port>(&mut self, port: &mut P) -> Turned {
         match self.serving {
-            Some(queue) => self.serve_chain(&queue, port),
+            Some(queue) => serve_chain(self, &queue, port),
             None => Turned::Idle,
         }
     }

@@ -1,31 +1,27 @@
--- The block device's state after a take, after a request and after a give.
-use Rattle.std.proofs.Common.{◌≡◌, ℕ, List, ◌≤◌, length, take, true, Some, refl, arith}
+-- The block device's state after a request.
+use Rattle.std.proofs.Common.{◌≡◌, ℕ, List, ◌≤◌, length, take, Some, refl, arith}
 use Rattle.std.proofs.lemmas.List.{take_all}
-use Rattle.tv_blk.specs.Parts.{Parts, state_of, took_of}
+use Rattle.tv_blk.specs.Parts.{Parts, state_of}
 use Rattle.tv_blk.specs.Reading.{AnsweredSo}
 use Rattle.tv_blk.specs.declared.block.Block.TheInside.{Inside}
 use Rattle.tv_blk.specs.declared.block.Resize.{Resize}
 use Rattle.tv_items.specs.declared.action.Action.TheVariants as action
-use Rattle.tv_plan.specs.Block.{block_hand, block_plan, block_served, resized}
-use Rattle.tv_plan.specs.Serving.{index_raised}
+use Rattle.tv_plan.specs.Block.{block_hand, block_plan, block_stopped, resized}
 use Rattle.tv_script.specs.Scripts.{Ask}
-use Rattle.tv_virtio.specs.Spans.{total}
+use Rattle.tv_serving.specs.Steps.{took_of}
 use Rattle.tv_virtio.specs.declared.queue.QueueRegs.{QueueRegs}
-use Rattle.tv_vring.specs.Rings.{Ring, GaveSo, TookSo, with_answered}
+use Rattle.tv_virtio.specs.declared.queue.QueueStop.{QueueStop}
+use Rattle.tv_vring.specs.Rings.{Ring, with_answered}
 
 abbrev pub seen : Inside → Parts
 seen b = record { disk = b.disk; registers = b.regs; ring = b.ring; serving = b.serving; resizing = b.resizing }
 
-pub gave_state : (e : Parts) (q : QueueRegs) (new : Ring) → GaveSo e.ring new q true → record (state_of e) { used = index_raised e.ring.used q.number } ≡ state_of (record e { ring = new })
-gave_state e q new h = rw (h.used, h.last) refl
-
-pub took_served : (e : Parts) (q : QueueRegs) (new : Ring) (head len : ℕ) → TookSo e.ring new q true → len ≡ total new.chain.writable
-    → block_served (record (state_of e) { last = index_raised e.ring.last q.number }) q (took_of new head) (total new.chain.writable) ≡ block_served (state_of (record e { ring = new })) q (took_of new head) len
-took_served e q new head len h l = rw (h.used, h.last, l) refl
-
 pub responded_hand : (e : Parts) (q : QueueRegs) (new : Ring) (head : ℕ) (bytes : List ℕ) → AnsweredSo e.ring new
     → block_hand (state_of e) q (took_of e.ring head) bytes ≡ block_hand (state_of (record e { ring = new })) q (took_of new head) bytes
 responded_hand e q new head bytes h = rw (h.last, h.used, h.chain) refl
+
+pub responded_stop : (e : Parts) (new : Ring) (why : QueueStop) → AnsweredSo e.ring new → block_stopped (state_of e) why ≡ block_stopped (state_of (record e { ring = new })) why
+responded_stop e new why h = rw (h.last, h.used) refl
 
 pub completed_hand : (e : Parts) (q : QueueRegs) (new : Ring) (head len : ℕ) (bytes : List ℕ) → new ≡ with_answered e.ring bytes → length new.answered ≡ len
     → block_hand (state_of e) q (took_of e.ring head) bytes ≡ block_hand (state_of (record e { ring = new })) q (took_of new head) (take len new.answered)

@@ -1,9 +1,11 @@
 -- What contracts see of a block device.
 use Rattle.std.specs.Prelude.{ℕ, Option, Some, None}
 use Rattle.tv_blk.specs.declared.block.Resize.{Resize}
-use Rattle.tv_plan.specs.Block.{BlockDisk, BlockState}
-use Rattle.tv_transport.specs.Registers.{Registers}
-use Rattle.tv_virtio.specs.Queue.{Took}
+use Rattle.tv_plan.specs.Block.{BlockDisk, BlockState, block_rested, block_broke, block_broken, block_served}
+use Rattle.tv_script.specs.Scripts.{Stop}
+use Rattle.tv_script.specs.Services.{Idle}
+use Rattle.tv_serving.specs.Steps.{Steps}
+use Rattle.tv_transport.specs.Registers.{Registers, buffer_used}
 use Rattle.tv_virtio.specs.declared.queue.QueueRegs.{QueueRegs}
 use Rattle.tv_vring.specs.Rings.{Ring}
 
@@ -24,6 +26,18 @@ abbrev pub state_of : Parts → BlockState
 state_of p =
     record { disk = p.disk; registers = p.registers; last = p.ring.last; used = p.ring.used; serving = p.serving; resizing = resize_of p.resizing }
 
--- the chain that was taken last, with its head
-abbrev pub took_of : Ring → ℕ → Took
-took_of r head = record { head = head; chain = r.chain; readable = r.readable }
+-- how its state changes as its queue is served
+abbrev pub block_steps : Steps BlockState
+block_steps = record {
+  registers = λ b. b.registers;
+  last = λ b. b.last;
+  used = λ b. b.used;
+  took = λ b last. record b { last = last };
+  gave = λ b used. record b { used = used };
+  told = λ b. record b { registers = buffer_used b.registers };
+  rested = block_rested;
+  broke = block_broke;
+  broken = block_broken;
+  refused = λ b. Stop (Idle (block_broke b));
+  part = λ before. block_served;
+}

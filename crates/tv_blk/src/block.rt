@@ -1,20 +1,18 @@
 //! The device.
 
-ghost use Rattle.std.specs.Prelude.{◌≡◌, ◌≤◌, ◌<◌, [], length, take, Some, IfOk};
+ghost use Rattle.std.specs.Prelude.{◌≡◌, ◌≤◌, ◌<◌, [], length, IfOk};
 ghost use Rattle.tv_base.specs.declared.limits.TheConstants.{CHAIN_BYTES, DISK_SECTORS};
-ghost use Rattle.tv_blk.specs.Parts.{state_of, took_of};
+ghost use Rattle.tv_blk.specs.Parts.{state_of};
 ghost use Rattle.tv_blk.specs.Requests.{response_of};
 ghost use Rattle.tv_blk.specs.declared.request.Outcome.TheVariants as came;
-ghost use Rattle.tv_plan.specs.Block.{new_block, block_rested, block_effect, block_acted, block_loaded, block_broke, block_broken, block_finish, block_hand, block_answer, block_served, block_round, block_resized, resized, resize_told, resize_verdict, response_bytes};
-ghost use Rattle.tv_plan.specs.Serving.{is_served};
+ghost use Rattle.tv_plan.specs.Block.{new_block, block_rested, block_effect, block_acted, block_loaded, block_hand, block_answer, block_resized, resized, resize_told, resize_verdict, response_bytes};
 ghost use Rattle.tv_port.specs.Acting.{CanAct};
 ghost use Rattle.tv_regs.specs.Effects.{IsOfQueue};
 ghost use Rattle.tv_script.specs.Scripts.{AwaitsAll, Ask};
-ghost use Rattle.tv_script.specs.Services.{TurnedSo, IsLower, IsEnd};
-ghost use Rattle.tv_script.specs.declared.service.Turned.{Turned};
+ghost use Rattle.tv_script.specs.Services.{TurnedSo};
+ghost use Rattle.tv_serving.specs.Steps.{took_of};
 ghost use Rattle.tv_items.specs.declared.action.Action.TheVariants as action;
 ghost use Rattle.tv_items.specs.declared.action.Heard.TheVariants as heard;
-ghost use Rattle.tv_transport.specs.declared.registers.Effect.TheVariants as effect;
 ghost use Rattle.tv_virtio.specs.Queue.{IsServable};
 ghost use Rattle.tv_virtio.specs.Spans.{total};
 
@@ -28,6 +26,9 @@ use tv_port::{
     serve_rounds,
 };
 use tv_regs::{Effect, QueueRegs, Regs};
+use tv_serving::{
+    Answers, Gives, Queued, break_off, hand, is_ready, notified, serve_chain, stopped,
+};
 use tv_transport::VERSION_1;
 use tv_vring::{QueueStop, Taken, Vring};
 
@@ -37,10 +38,6 @@ const BLOCK: u32 = 2;
 const READ_ONLY: u64 = 0x20;
 /// The feature of a device that takes requests to flush, VIRTIO_BLK_F_FLUSH.
 const FLUSH: u64 = 0x200;
-/// The bit of the status by which a driver says that it is ready.
-const DRIVER_OK: u8 = 4;
-/// The bit of the status by which a device says that it needs a reset.
-const DEVICE_NEEDS_RESET: u8 = 64;
 /// The status of a resize that was done.
 const RESIZED: u8 = 0;
 /// The status of a resize that failed.
@@ -106,8 +103,7 @@ impl Block {
         ensures state { state_of self.new ≡ block_acted (state_of self.old) tag item.now }
         ensures value { result ≡ block_loaded (state_of self.old) item.now }
     {
-        self.serving = None;
-        self.resizing = None;
+        self.rest();
         match *item {
             Item::Load { width, off } => self.regs.read(off, width, &self.disk.config()),
             Item::Store { width, off, value } => {
@@ -130,105 +126,8 @@ impl Block {
     {
         match effect {
             Effect::Ready(number) => self.ring.fresh(number),
-            Effect::Notify(number) => self.notify(number),
+            Effect::Notify(number) => self.serving = notified(&self.regs, number),
             Effect::None | Effect::Reset | Effect::Config => {}
-        }
-    }
-
-    /// A notification begins a service of the queue with a number, where there is such a queue and the device may serve it.
-    fn notify(&mut self, number: u16)
-        ensures { state_of self.new ≡ block_effect (state_of self.old) (effect.Notify number) }
-    {
-        if self.is_served() {
-            self.serving = self.regs.queue(number);
-        } else {
-            self.serving = None;
-        }
-    }
-
-    /// Whether notifications are served: the driver is ready, and the device needs no reset.
-    fn is_served(&self) -> bool
-        ensures { result ≡ is_served self.now.registers }
-    {
-        let status = self.regs.status();
-        status & DRIVER_OK == DRIVER_OK && status & DEVICE_NEEDS_RESET != DEVICE_NEEDS_RESET
-    }
-
-    /// Needs a reset, and ends the service.
-    fn fail(&mut self)
-        ensures { state_of self.new ≡ block_broke (state_of self.old) }
-    {
-        self.regs.broken();
-        self.serving = None;
-        self.resizing = None;
-    }
-
-    /// A broken service: the device needs a reset, and tells a driver that is ready so by an interrupt.
-    #[tactic(auto, using(tv_script::proofs::Scripts::awaits_now, tv_script::proofs::Scripts::cut_here, tv_script::proofs::Scripts::reached_here), unfolding(tv_script::specs::Scripts::Follows))]
-    fn broken<P: Port>(&mut self, port: &mut P) -> Turned
-        requires awaits { AwaitsAll (P.awaits port.old) (block_broken (state_of self.old)) }
-        ensures turned { TurnedSo P.moved P.over P.stopped port.old (block_broken (state_of self.old)) port.new (state_of self.new) result }
-        ensures end { IsEnd result }
-        ensures left { P.left port.new ≤ P.left port.old }
-    {
-        let is_ready = self.regs.status() & DRIVER_OK == DRIVER_OK;
-        self.fail();
-        if !is_ready {
-            return Turned::Idle;
-        }
-        match port.ask(&Action::Raise) {
-            Ok(_) => Turned::Idle,
-            Err(Ended) => Turned::Ended,
-        }
-    }
-
-    /// Nothing further is due.
-    fn rest(&mut self) -> Turned
-        ensures idle { result ≡ Turned.Idle }
-        ensures state { state_of self.new ≡ block_rested (state_of self.old) }
-    {
-        self.serving = None;
-        self.resizing = None;
-        Turned::Idle
-    }
-
-    /// The end of a round whose chain was given back.
-    #[tactic(auto, using(tv_script::proofs::Scripts::awaits_now, tv_script::proofs::Scripts::cut_here, tv_script::proofs::Scripts::reached_here), unfolding(tv_script::specs::Scripts::Follows))]
-    fn finish<P: Port>(&mut self, wanted: bool, port: &mut P) -> Turned
-        requires awaits { AwaitsAll (P.awaits port.old) (block_finish (state_of self.old) wanted) }
-        ensures turned { TurnedSo P.moved P.over P.stopped port.old (block_finish (state_of self.old) wanted) port.new (state_of self.new) result }
-        ensures left { P.left port.new ≤ P.left port.old }
-    {
-        self.regs.used();
-        if !wanted {
-            return Turned::Again;
-        }
-        match port.ask(&Action::Raise) {
-            Ok(Heard::Done) => Turned::Again,
-            Ok(_) => {
-                self.fail();
-                Turned::Idle
-            }
-            Err(Ended) => Turned::Ended,
-        }
-    }
-
-    /// Gives the chain that was taken last back, with the first `len` answered bytes.
-    #[tactic(auto, using(tv_script::proofs::Scripts::caught_awaits, tv_script::proofs::Scripts::caught_cut, tv_script::proofs::Turns::turned_value, tv_script::proofs::Turns::turned_stop, tv_script::proofs::Scripts::reached_stopped, tv_script::proofs::Scripts::awaits_value, tv_script::proofs::Scripts::awaits_stop))]
-    fn hand<P: Port>(&mut self, queue: &QueueRegs, head: u16, len: u32, port: &mut P) -> Turned
-        requires ring { IsServable queue.now }
-        requires answered { len ≤ length self.old.ring.answered }
-        requires writable { len ≤ total self.old.ring.chain.writable }
-        requires awaits { AwaitsAll (P.awaits port.old) (block_hand (state_of self.old) queue.now (took_of self.old.ring head) (take len self.old.ring.answered)) }
-        ensures turned { TurnedSo P.moved P.over P.stopped port.old (block_hand (state_of self.old) queue.now (took_of self.old.ring head) (take len self.old.ring.answered)) port.new (state_of self.new) result }
-        ensures left { P.left port.new ≤ P.left port.old }
-    {
-        match self.ring.give(queue, port, head, len) {
-            Ok(wanted) => self.finish(wanted, port),
-            Err(QueueStop::Ended) => Turned::Ended,
-            Err(QueueStop::Empty) => self.rest(),
-            Err(QueueStop::Refused) => self.broken(port),
-            Err(QueueStop::Malformed(_, _)) => self.broken(port),
         }
     }
 
@@ -250,12 +149,18 @@ impl Block {
         ensures left { P.left port.new ≤ P.left port.old }
     {
         complete(&mut self.ring, len, outcome);
-        self.hand(queue, head, len + 1, port)
+        hand(self, queue, head, len + 1, port)
     }
 
     /// Does the request of the chain that was taken last, which has room for `len` bytes of content.
-    #[tactic(auto, using(tv_script::proofs::Scripts::caught_awaits, tv_script::proofs::Scripts::caught_cut, tv_script::proofs::Turns::turned_value, tv_script::proofs::Turns::turned_stop, tv_script::proofs::Scripts::reached_stopped, tv_script::proofs::Scripts::awaits_value, tv_script::proofs::Scripts::awaits_stop))]
-    fn answer<P: Port>(&mut self, queue: &QueueRegs, head: u16, len: u32, port: &mut P) -> Turned
+    #[tactic(auto, using(tv_script::proofs::Scripts::caught_awaits, tv_serving::proofs::Caught::stop_awaited, tv_serving::proofs::Caught::stop_turned))]
+    fn serve_request<P: Port>(
+        &mut self,
+        queue: &QueueRegs,
+        head: u16,
+        len: u32,
+        port: &mut P,
+    ) -> Turned
         requires ring { IsServable queue.now }
         requires head { 16 ≤ length self.old.ring.readable }
         requires none { self.old.ring.answered ≡ [] }
@@ -267,44 +172,7 @@ impl Block {
     {
         match respond(&self.disk, &mut self.ring, len, port) {
             Ok(outcome) => self.reply(queue, head, len, outcome, port),
-            Err(QueueStop::Ended) => Turned::Ended,
-            Err(QueueStop::Empty) => self.rest(),
-            Err(QueueStop::Refused) => self.broken(port),
-            Err(QueueStop::Malformed(_, _)) => self.broken(port),
-        }
-    }
-
-    /// Serves the chain that was taken last, which is broken where it has no room for a status or no whole head.
-    fn serve_taken<P: Port>(&mut self, queue: &QueueRegs, taken: &Taken, port: &mut P) -> Turned
-        requires ring { IsServable queue.now }
-        requires none { self.old.ring.answered ≡ [] }
-        requires room { taken.now.writable ≤ CHAIN_BYTES }
-        requires writable { taken.now.writable ≡ total self.old.ring.chain.writable }
-        requires awaits { AwaitsAll (P.awaits port.old) (block_served (state_of self.old) queue.now (took_of self.old.ring taken.now.head) taken.now.writable) }
-        ensures turned { TurnedSo P.moved P.over P.stopped port.old (block_served (state_of self.old) queue.now (took_of self.old.ring taken.now.head) taken.now.writable) port.new (state_of self.new) result }
-        ensures left { P.left port.new ≤ P.left port.old }
-    {
-        if self.ring.readable().len() < HEAD_BYTES || taken.writable == 0 {
-            self.broken(port)
-        } else {
-            self.answer(queue, taken.head, taken.writable - 1, port)
-        }
-    }
-
-    /// Takes the next chain, and serves it.
-    #[tactic(auto, using(tv_script::proofs::Scripts::caught_awaits, tv_script::proofs::Scripts::caught_cut, tv_script::proofs::Turns::turned_value, tv_script::proofs::Turns::turned_stop, tv_script::proofs::Scripts::reached_stopped, tv_script::proofs::Scripts::awaits_value, tv_script::proofs::Scripts::awaits_stop, tv_script::proofs::Turns::lower_end))]
-    fn serve_chain<P: Port>(&mut self, queue: &QueueRegs, port: &mut P) -> Turned
-        requires ring { IsServable queue.now }
-        requires awaits { AwaitsAll (P.awaits port.old) (block_round (state_of self.old) (Some queue.now)) }
-        ensures turned { TurnedSo P.moved P.over P.stopped port.old (block_round (state_of self.old) (Some queue.now)) port.new (state_of self.new) result }
-        ensures lower { IsLower (P.left port.old) (P.left port.new) result }
-    {
-        match self.ring.take(queue, port) {
-            Ok(taken) => self.serve_taken(queue, &taken, port),
-            Err(QueueStop::Ended) => Turned::Ended,
-            Err(QueueStop::Empty) => self.rest(),
-            Err(QueueStop::Refused) => self.broken(port),
-            Err(QueueStop::Malformed(_, _)) => self.broken(port),
+            Err(why) => stopped(self, why, port),
         }
     }
 
@@ -342,7 +210,8 @@ impl Block {
         ensures turned { TurnedSo P.moved P.over P.stopped port.old (resized (state_of self.old) tag 0 heard.Failed) port.new (state_of self.new) result }
     {
         port.tell(&verdict(tag, NOT_RESIZED));
-        self.rest()
+        self.rest();
+        Turned::Idle
     }
 
     /// Another capacity, which the configuration shows.
@@ -352,8 +221,7 @@ impl Block {
     {
         self.disk.set_sectors(sectors);
         self.regs.changed();
-        self.serving = None;
-        self.resizing = None;
+        self.rest();
     }
 
     /// Tells a driver that is ready, by an interrupt, that the configuration changed.
@@ -362,7 +230,7 @@ impl Block {
         requires awaits { AwaitsAll (P.awaits port.old) (resize_told (state_of self.old)) }
         ensures turned { TurnedSo P.moved P.over P.stopped port.old (resize_told (state_of self.old)) port.new (state_of self.new) result }
     {
-        if self.regs.status() & DRIVER_OK != DRIVER_OK {
+        if !is_ready(&self.regs) {
             return Turned::Idle;
         }
         match port.ask(&Action::Raise) {
@@ -388,6 +256,76 @@ fn verdict(tag: u32, status: u8) -> Verdict
     }
 }
 
+impl Queued for Block {
+    ghost use Rattle.tv_blk.specs.Parts.{state_of, block_steps};
+    ghost use Rattle.tv_plan.specs.Block.{BlockState};
+
+    ghost State = { BlockState };
+
+    ghost state = { state_of };
+
+    ghost steps = { block_steps };
+
+    ghost ring = { λ b. b.ring };
+
+    ghost before = { state_of };
+
+    fn is_ready(&self) -> bool {
+        is_ready(&self.regs)
+    }
+
+    fn rest(&mut self) {
+        self.serving = None;
+        self.resizing = None;
+    }
+
+    fn fail(&mut self) {
+        self.regs.broken();
+        self.rest();
+    }
+}
+
+impl Gives for Block {
+    fn use_buffer(&mut self) {
+        self.regs.used();
+    }
+
+    fn broken<P: Port>(&mut self, port: &mut P) -> Turned {
+        break_off(self, port)
+    }
+
+    #[tactic(auto, using(tv_script::proofs::Scripts::reached_here))]
+    fn refused<P: Port>(&mut self, _port: &mut P) -> Turned {
+        self.fail();
+        Turned::Idle
+    }
+
+    fn take<P: Port>(&mut self, queue: &QueueRegs, port: &mut P) -> Result<Taken, QueueStop> {
+        self.ring.take(queue, port)
+    }
+
+    fn give<P: Port>(
+        &mut self,
+        queue: &QueueRegs,
+        port: &mut P,
+        head: u16,
+        len: u32,
+    ) -> Result<bool, QueueStop> {
+        self.ring.give(queue, port, head, len)
+    }
+}
+
+impl Answers for Block {
+    /// A chain without a whole head, or without room for a status, breaks the device.
+    fn answer<P: Port>(&mut self, queue: &QueueRegs, taken: Taken, port: &mut P) -> Turned {
+        if self.ring.readable().len() < HEAD_BYTES || taken.writable == 0 {
+            self.broken(port)
+        } else {
+            self.serve_request(queue, taken.head, taken.writable - 1, port)
+        }
+    }
+}
+
 impl Rounds for Block {
     ghost use Rattle.tv_blk.specs.Parts.{state_of};
     ghost use Rattle.tv_plan.specs.Block.{BlockState, block_plan};
@@ -410,7 +348,7 @@ impl Rounds for Block {
     #[tactic(auto, using(tv_script::proofs::Scripts::reached_here))]
     fn round<P: Port>(&mut self, port: &mut P) -> Turned {
         match self.serving {
-            Some(queue) => self.serve_chain(&queue, port),
+            Some(queue) => serve_chain(self, &queue, port),
             None => Turned::Idle,
         }
     }

@@ -1,18 +1,20 @@
--- The console's state after a take, after a give, and after an input.
-use Rattle.std.proofs.Common.{◌≡◌, ◌+◌, ◌%◌, ◌≤◌, ◌<◌, ℕ, List, [], ◌∷◌, length, take, min, set, get_or, Bool, true, false, Option, Some, None, All, refl, ap, sym, ◌∙◌, arith, inl, inr}
+-- The console's state after a take, and after an input.
+use Rattle.std.proofs.Common.{◌≡◌, ◌+◌, ◌%◌, ◌≤◌, ◌<◌, ℕ, List, [], ◌∷◌, length, take, min, set, get_or, Bool, true, false, Option, Some, None, Result, Ok, Err, is_ok, All, refl, ap, sym, ◌∙◌, arith, inl, inr}
+use Rattle.std.specs.Prelude.{OnOk}
 use Rattle.std.proofs.lemmas.List.{set-set, set-get_or, set_past, get_or-set_same, take_all}
 use Rattle.std.proofs.lemmas.List.Elements.{All-set, All-get_or}
 use Rattle.std.proofs.lemmas.Bool.{cases_lt}
 use Rattle.tv_virtio.specs.declared.queue.QueueRegs.{QueueRegs}
 use Rattle.tv_virtio.specs.Queue.{Took}
 use Rattle.tv_virtio.specs.Spans.{total}
+use Rattle.tv_virtio.specs.declared.queue.QueueStop.{QueueStop}
 use Rattle.tv_base.specs.declared.limits.TheConstants.{PIECE_BYTES}
-use Rattle.tv_vring.specs.Rings.{Ring, GaveSo, TookSo, raised_at, raised_where, lowered_at, with_kept, with_fresh}
-use Rattle.tv_plan.specs.Serving.{index_raised}
+use Rattle.tv_vring.specs.declared.ring.Taken.{Taken}
+use Rattle.tv_vring.specs.Rings.{Ring, TookSo, raised_at, raised_where, lowered_at, with_kept, with_fresh}
 use Rattle.tv_script.specs.Scripts.{Stop}
 use Rattle.tv_script.specs.Services.{Idle}
 use Rattle.tv_plan.specs.Console.{ConsoleState, console_part, console_hand, console_rested, received, receive}
-use Rattle.tv_console.specs.Parts.{Parts, IsIndex, state_of, kept_of, took_of}
+use Rattle.tv_console.specs.Parts.{Parts, IsIndex, state_of, kept_of, console_steps}
 use Rattle.tv_console.specs.declared.console.Console.TheInside.{Inside}
 
 abbrev pub seen : Inside → Parts
@@ -64,20 +66,12 @@ kept_state e q new all h =
     let used : (with_kept new new.taken).used ≡ e.ring.used = kept_used new new.taken ∙ h.used in
     rw (last, used) refl
 
-took_state : (e : Parts) (q : QueueRegs) (new : Ring) → TookSo e.ring new q true → record (state_of e) { last = index_raised e.ring.last q.number } ≡ state_of (record e { ring = new })
-took_state e q new h = rw (h.last, h.used) refl
+pub kept_part : (e : Parts) (q : QueueRegs) (new : Ring) (result : Result Taken QueueStop) → All IsIndex e.ring.last → TookSo e.ring new q (is_ok result)
+    → OnOk result (console_steps.part (kept_of (record e { ring = new })) ≡ console_steps.part (state_of e))
+kept_part e q new (Ok taken) all h = ap console_steps.part (kept_state e q new all h)
+kept_part e q new (Err why) all h = tt
 
-pub took_part : (e : Parts) (q : QueueRegs) (new : Ring) (head : ℕ) → All IsIndex e.ring.last → TookSo e.ring new q true
-    → console_part (state_of e) (record (state_of e) { last = index_raised e.ring.last q.number }) q (took_of new head)
-    ≡ console_part (kept_of (record e { ring = new })) (state_of (record e { ring = new })) q (took_of new head)
-took_part e q new head all h =
-    ap (λ (c : ConsoleState). console_part (state_of e) c q (took_of new head)) (took_state e q new h)
-    ∙ ap (λ (kept : ConsoleState). console_part kept (state_of (record e { ring = new })) q (took_of new head)) (sym (kept_state e q new all h))
-
--- 3. A give, and an input
-
-pub gave_state : (e : Parts) (q : QueueRegs) (new : Ring) → GaveSo e.ring new q true → record (state_of e) { used = index_raised e.ring.used q.number } ≡ state_of (record e { ring = new })
-gave_state e q new h = rw (h.used, h.last) refl
+-- 3. An input
 
 pub received_none : (kept c : ConsoleState) (q : QueueRegs) (took : Took) (bytes : List ℕ) → length bytes ≡ 0 → received kept c q took bytes ≡ Stop (Idle (record (console_rested kept) { ended = true }))
 received_none kept c q took [] h = refl

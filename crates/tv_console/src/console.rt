@@ -1,38 +1,35 @@
 //! The console (VIRTIO 1.2, section 5.3): the bytes of each chain of its queue 1 go out, and bytes that come in go to the
 //! chains of its queue 0.
 
-ghost use Rattle.std.specs.Prelude.{◌≡◌, ◌≤◌, true, [], length, take, Some, IfOk};
+ghost use Rattle.std.specs.Prelude.{◌≡◌, ◌≤◌, true, [], length, take, IfOk};
 ghost use Rattle.tv_base.specs.declared.limits.TheConstants.{PIECE_BYTES};
 ghost use Rattle.tv_script.specs.Scripts.{AwaitsAll};
-ghost use Rattle.tv_script.specs.Services.{TurnedSo, IsLower, IsEnd};
+ghost use Rattle.tv_script.specs.Services.{TurnedSo};
 ghost use Rattle.tv_script.specs.declared.service.Turned.{Turned};
 ghost use Rattle.tv_virtio.specs.Spans.{total};
 ghost use Rattle.tv_virtio.specs.Queue.{IsServable};
 ghost use Rattle.tv_transport.specs.declared.registers.Effect.TheVariants as effect;
 ghost use Rattle.tv_regs.specs.Effects.{IsOfQueue};
-ghost use Rattle.tv_plan.specs.Serving.{is_served};
-ghost use Rattle.tv_plan.specs.Console.{new_console, console_effect, console_acted, console_loaded, console_broke, console_broken, console_rested, console_finish, console_hand, received, receive, sent, transmit, console_part, console_round};
-ghost use Rattle.tv_console.specs.Parts.{state_of, kept_of, took_of};
+ghost use Rattle.tv_plan.specs.Console.{new_console, console_effect, console_acted, console_loaded, console_rested, received, receive, sent, transmit};
+ghost use Rattle.tv_serving.specs.Steps.{took_of};
+ghost use Rattle.tv_console.specs.Parts.{state_of, kept_of};
 
 use crate::streams::{input, put_all};
 use std::alloc::Global;
 use std::marker::Model;
 use tv_base::{Memory, PIECE_BYTES};
-use tv_port::{
-    Acted, Action, Bytes, Device, Ended, Heard, Item, Port, Rounds, Served, Turned, serve_rounds,
-};
+use tv_port::{Acted, Bytes, Device, Item, Port, Rounds, Served, Turned, serve_rounds};
 use tv_regs::{Effect, QueueRegs, Regs};
+use tv_serving::{
+    Answers, Gives, Queued, break_off, hand, is_ready, notified, serve_chain, stopped,
+};
 use tv_transport::VERSION_1;
-use tv_vring::{QueueStop, Vring};
+use tv_vring::{QueueStop, Taken, Vring};
 
 /// The device type of a console (VIRTIO 1.2, section 5).
 const CONSOLE: u32 = 3;
 /// The number of the queue whose chains take what comes in. The other one's hold what goes out.
 const RECEIVE: u16 = 0;
-/// The bit of the status by which a driver says that it is ready.
-const DRIVER_OK: u8 = 4;
-/// The bit of the status by which a device says that it needs a reset.
-const DEVICE_NEEDS_RESET: u8 = 64;
 
 /// A console with one port. A chain of its queue 0 takes up to [`PIECE_BYTES`] bytes of the input; where the input is at its
 /// end the chain stays with the driver, and queue 0 is served no more. The readable bytes of a chain of its queue 1 go out.
@@ -79,7 +76,7 @@ impl Console {
         ensures state { state_of self.new ≡ console_acted (state_of self.old) item.now }
         ensures value { result ≡ console_loaded (state_of self.old) item.now }
     {
-        self.serving = None;
+        self.rest();
         match *item {
             Item::Load { width, off } => self.regs.read(off, width, &[]),
             Item::Store { width, off, value } => {
@@ -108,94 +105,10 @@ impl Console {
     fn notify(&mut self, number: u16)
         ensures { state_of self.new ≡ console_effect (state_of self.old) (effect.Notify number) }
     {
-        if self.is_served() && !(self.ended && number == RECEIVE) {
-            self.serving = self.regs.queue(number);
-        } else {
+        if self.ended && number == RECEIVE {
             self.serving = None;
-        }
-    }
-
-    /// Whether notifications are served: the driver is ready, and the device needs no reset.
-    fn is_served(&self) -> bool
-        ensures { result ≡ is_served self.now.registers }
-    {
-        let status = self.regs.status();
-        status & DRIVER_OK == DRIVER_OK && status & DEVICE_NEEDS_RESET != DEVICE_NEEDS_RESET
-    }
-
-    /// Needs a reset, and ends the service.
-    fn fail(&mut self)
-        ensures { state_of self.new ≡ console_broke (state_of self.old) }
-    {
-        self.regs.broken();
-        self.serving = None;
-    }
-
-    /// A broken service: the device needs a reset, and tells a driver that is ready so by an interrupt.
-    #[tactic(auto, using(tv_script::proofs::Scripts::awaits_now, tv_script::proofs::Scripts::cut_here, tv_script::proofs::Scripts::reached_here), unfolding(tv_script::specs::Scripts::Follows))]
-    fn broken<P: Port>(&mut self, port: &mut P) -> Turned
-        requires awaits { AwaitsAll (P.awaits port.old) (console_broken (state_of self.old)) }
-        ensures turned { TurnedSo P.moved P.over P.stopped port.old (console_broken (state_of self.old)) port.new (state_of self.new) result }
-        ensures end { IsEnd result }
-        ensures left { P.left port.new ≤ P.left port.old }
-    {
-        let is_ready = self.regs.status() & DRIVER_OK == DRIVER_OK;
-        self.fail();
-        if !is_ready {
-            return Turned::Idle;
-        }
-        match port.ask(&Action::Raise) {
-            Ok(_) => Turned::Idle,
-            Err(Ended) => Turned::Ended,
-        }
-    }
-
-    /// No further chain is there.
-    fn rest(&mut self) -> Turned
-        ensures idle { result ≡ Turned.Idle }
-        ensures state { state_of self.new ≡ console_rested (state_of self.old) }
-    {
-        self.serving = None;
-        Turned::Idle
-    }
-
-    /// The end of a round whose chain was given back.
-    #[tactic(auto, using(tv_script::proofs::Scripts::awaits_now, tv_script::proofs::Scripts::cut_here, tv_script::proofs::Scripts::reached_here), unfolding(tv_script::specs::Scripts::Follows))]
-    fn finish<P: Port>(&mut self, wanted: bool, port: &mut P) -> Turned
-        requires awaits { AwaitsAll (P.awaits port.old) (console_finish (state_of self.old) wanted) }
-        ensures turned { TurnedSo P.moved P.over P.stopped port.old (console_finish (state_of self.old) wanted) port.new (state_of self.new) result }
-        ensures left { P.left port.new ≤ P.left port.old }
-    {
-        self.regs.used();
-        if !wanted {
-            return Turned::Again;
-        }
-        match port.ask(&Action::Raise) {
-            Ok(Heard::Done) => Turned::Again,
-            Ok(_) => {
-                self.fail();
-                Turned::Idle
-            }
-            Err(Ended) => Turned::Ended,
-        }
-    }
-
-    /// Gives the chain that was taken last back, with the first `len` answered bytes.
-    #[tactic(auto, using(tv_script::proofs::Scripts::caught_awaits, tv_script::proofs::Scripts::caught_cut, tv_script::proofs::Turns::turned_value, tv_script::proofs::Turns::turned_stop, tv_script::proofs::Scripts::reached_stopped, tv_script::proofs::Scripts::awaits_value, tv_script::proofs::Scripts::awaits_stop))]
-    fn hand<P: Port>(&mut self, queue: &QueueRegs, head: u16, len: u32, port: &mut P) -> Turned
-        requires ring { IsServable queue.now }
-        requires answered { len ≤ length self.old.ring.answered }
-        requires writable { len ≤ total self.old.ring.chain.writable }
-        requires awaits { AwaitsAll (P.awaits port.old) (console_hand (state_of self.old) queue.now (took_of self.old.ring head) (take len self.old.ring.answered)) }
-        ensures turned { TurnedSo P.moved P.over P.stopped port.old (console_hand (state_of self.old) queue.now (took_of self.old.ring head) (take len self.old.ring.answered)) port.new (state_of self.new) result }
-        ensures left { P.left port.new ≤ P.left port.old }
-    {
-        match self.ring.give(queue, port, head, len) {
-            Ok(wanted) => self.finish(wanted, port),
-            Err(QueueStop::Ended) => Turned::Ended,
-            Err(QueueStop::Empty) => self.rest(),
-            Err(QueueStop::Refused) => self.broken(port),
-            Err(QueueStop::Malformed(_, _)) => self.broken(port),
+        } else {
+            self.serving = notified(&self.regs, number);
         }
     }
 
@@ -207,7 +120,7 @@ impl Console {
     {
         self.ring.keep();
         self.ended = true;
-        self.serving = None;
+        self.rest();
         Turned::Idle
     }
 
@@ -231,12 +144,12 @@ impl Console {
             return self.end_input();
         }
         self.ring.answer(bytes);
-        self.hand(queue, head, bytes.len() as u32, port)
+        hand(self, queue, head, bytes.len() as u32, port)
     }
 
     /// Takes at most `most` bytes of the input for the chain that was taken last; a chain that may be written no byte goes
     /// back at once.
-    #[tactic(auto, using(tv_script::proofs::Scripts::caught_awaits, tv_script::proofs::Scripts::caught_cut, tv_script::proofs::Turns::turned_value, tv_script::proofs::Turns::turned_stop, tv_script::proofs::Scripts::reached_stopped, tv_script::proofs::Scripts::awaits_value, tv_script::proofs::Scripts::awaits_stop))]
+    #[tactic(auto, using(tv_script::proofs::Scripts::caught_awaits, tv_script::proofs::Scripts::awaits_value, tv_script::proofs::Turns::turned_value, tv_serving::proofs::Caught::stop_awaited, tv_serving::proofs::Caught::stop_turned))]
     fn receive<P: Port>(&mut self, queue: &QueueRegs, head: u16, most: u16, port: &mut P) -> Turned
         requires ring { IsServable queue.now }
         requires none { self.old.ring.answered ≡ [] }
@@ -247,14 +160,11 @@ impl Console {
         ensures left { P.left port.new ≤ P.left port.old }
     {
         if most == 0 {
-            return self.hand(queue, head, 0, port);
+            return hand(self, queue, head, 0, port);
         }
         match input(port, most) {
             Ok(bytes) => self.received(queue, head, &bytes, port),
-            Err(QueueStop::Ended) => Turned::Ended,
-            Err(QueueStop::Empty) => self.rest(),
-            Err(QueueStop::Refused) => self.broken(port),
-            Err(QueueStop::Malformed(_, _)) => self.broken(port),
+            Err(why) => stopped(self, why, port),
         }
     }
 
@@ -267,15 +177,15 @@ impl Console {
         ensures left { P.left port.new ≤ P.left port.old }
     {
         if is_done {
-            self.hand(queue, head, 0, port)
+            hand(self, queue, head, 0, port)
         } else {
-            self.serving = None;
+            self.rest();
             Turned::Lost
         }
     }
 
     /// Puts out the readable bytes of the chain that was taken last.
-    #[tactic(auto, using(tv_script::proofs::Scripts::caught_awaits, tv_script::proofs::Scripts::caught_cut, tv_script::proofs::Turns::turned_value, tv_script::proofs::Turns::turned_stop, tv_script::proofs::Scripts::reached_stopped, tv_script::proofs::Scripts::awaits_value, tv_script::proofs::Scripts::awaits_stop))]
+    #[tactic(auto, using(tv_script::proofs::Scripts::caught_awaits, tv_script::proofs::Scripts::awaits_value, tv_script::proofs::Turns::turned_value, tv_serving::proofs::Caught::stop_awaited, tv_serving::proofs::Caught::stop_turned))]
     fn transmit<P: Port>(&mut self, queue: &QueueRegs, head: u16, port: &mut P) -> Turned
         requires ring { IsServable queue.now }
         requires awaits { AwaitsAll (P.awaits port.old) (transmit (state_of self.old) queue.now (took_of self.old.ring head)) }
@@ -284,50 +194,77 @@ impl Console {
     {
         match put_all(self.ring.readable(), port) {
             Ok(is_done) => self.sent(queue, head, is_done, port),
-            Err(QueueStop::Ended) => Turned::Ended,
-            Err(QueueStop::Empty) => self.rest(),
-            Err(QueueStop::Refused) => self.broken(port),
-            Err(QueueStop::Malformed(_, _)) => self.broken(port),
+            Err(why) => stopped(self, why, port),
         }
     }
+}
 
-    /// Answers the chain that was taken last, which has `writable` bytes that the device may write.
-    fn answer<P: Port>(
+impl Queued for Console {
+    ghost use Rattle.tv_console.specs.Parts.{state_of, kept_of, console_steps};
+    ghost use Rattle.tv_plan.specs.Console.{ConsoleState};
+
+    ghost State = { ConsoleState };
+
+    ghost state = { state_of };
+
+    ghost steps = { console_steps };
+
+    ghost ring = { λ c. c.ring };
+
+    ghost before = { kept_of };
+
+    fn is_ready(&self) -> bool {
+        is_ready(&self.regs)
+    }
+
+    fn rest(&mut self) {
+        self.serving = None;
+    }
+
+    fn fail(&mut self) {
+        self.regs.broken();
+        self.rest();
+    }
+}
+
+impl Gives for Console {
+    fn use_buffer(&mut self) {
+        self.regs.used();
+    }
+
+    fn broken<P: Port>(&mut self, port: &mut P) -> Turned {
+        break_off(self, port)
+    }
+
+    #[tactic(auto, using(tv_script::proofs::Scripts::reached_here))]
+    fn refused<P: Port>(&mut self, _port: &mut P) -> Turned {
+        self.fail();
+        Turned::Idle
+    }
+
+    #[tactic(auto, using(crate::proofs::States::indices_taken, crate::proofs::States::kept_part))]
+    fn take<P: Port>(&mut self, queue: &QueueRegs, port: &mut P) -> Result<Taken, QueueStop> {
+        self.ring.take(queue, port)
+    }
+
+    fn give<P: Port>(
         &mut self,
         queue: &QueueRegs,
-        head: u16,
-        writable: u32,
         port: &mut P,
-    ) -> Turned
-        requires ring { IsServable queue.now }
-        requires none { self.old.ring.answered ≡ [] }
-        requires writable { writable ≡ total self.old.ring.chain.writable }
-        requires awaits { AwaitsAll (P.awaits port.old) (console_part (kept_of self.old) (state_of self.old) queue.now (took_of self.old.ring head)) }
-        ensures turned { TurnedSo P.moved P.over P.stopped port.old (console_part (kept_of self.old) (state_of self.old) queue.now (took_of self.old.ring head)) port.new (state_of self.new) result }
-        ensures left { P.left port.new ≤ P.left port.old }
-    {
-        if queue.number == RECEIVE {
-            let most = writable.min(PIECE_BYTES as u32) as u16;
-            self.receive(queue, head, most, port)
-        } else {
-            self.transmit(queue, head, port)
-        }
+        head: u16,
+        len: u32,
+    ) -> Result<bool, QueueStop> {
+        self.ring.give(queue, port, head, len)
     }
+}
 
-    /// Takes the next chain, and answers it.
-    #[tactic(auto, using(tv_script::proofs::Scripts::caught_awaits, tv_script::proofs::Scripts::caught_cut, tv_script::proofs::Turns::turned_value, tv_script::proofs::Turns::turned_stop, tv_script::proofs::Scripts::reached_stopped, tv_script::proofs::Scripts::awaits_value, tv_script::proofs::Scripts::awaits_stop, tv_script::proofs::Turns::lower_end, crate::proofs::States::indices_taken))]
-    fn serve_chain<P: Port>(&mut self, queue: &QueueRegs, port: &mut P) -> Turned
-        requires ring { IsServable queue.now }
-        requires awaits { AwaitsAll (P.awaits port.old) (console_round (state_of self.old) (Some queue.now)) }
-        ensures turned { TurnedSo P.moved P.over P.stopped port.old (console_round (state_of self.old) (Some queue.now)) port.new (state_of self.new) result }
-        ensures lower { IsLower (P.left port.old) (P.left port.new) result }
-    {
-        match self.ring.take(queue, port) {
-            Ok(taken) => self.answer(queue, taken.head, taken.writable, port),
-            Err(QueueStop::Ended) => Turned::Ended,
-            Err(QueueStop::Empty) => self.rest(),
-            Err(QueueStop::Refused) => self.broken(port),
-            Err(QueueStop::Malformed(_, _)) => self.broken(port),
+impl Answers for Console {
+    fn answer<P: Port>(&mut self, queue: &QueueRegs, taken: Taken, port: &mut P) -> Turned {
+        if queue.number == RECEIVE {
+            let most = taken.writable.min(PIECE_BYTES as u32) as u16;
+            self.receive(queue, taken.head, most, port)
+        } else {
+            self.transmit(queue, taken.head, port)
         }
     }
 }
@@ -353,7 +290,7 @@ impl Rounds for Console {
     #[tactic(auto, using(tv_script::proofs::Scripts::reached_here))]
     fn round<P: Port>(&mut self, port: &mut P) -> Turned {
         match self.serving {
-            Some(queue) => self.serve_chain(&queue, port),
+            Some(queue) => serve_chain(self, &queue, port),
             None => Turned::Idle,
         }
     }

@@ -5,3 +5,4 @@ pub mod Guests
 pub mod Looks
 pub mod Ports
 pub mod Quiet
+pub mod Rows

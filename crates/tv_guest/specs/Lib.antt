@@ -3,3 +3,4 @@ pub mod Direct
 pub mod Guest
 pub mod GuestState
 pub mod Looks
+pub mod Row

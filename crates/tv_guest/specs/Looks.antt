@@ -1,5 +1,5 @@
 -- What the next event of a hart would show, found without making it.
-use Rattle.std.specs.Prelude.{◌≡◌, ◌≢◌, ℕ, ◌%◌, ◌^◌, ◌++◌, if◌then◌else◌, length, Option, Some, None}
+use Rattle.std.specs.Prelude.{◌≡◌, ◌≢◌, ℕ, ◌%◌, ◌^◌, ◌++◌, ◌≤◌, if◌then◌else◌, length, slice_index_or, Option, Some, None}
 use Rattle.tv_base.specs.declared.Access.TheVariants as access
 use Rattle.tv_base.specs.declared.Width.{Width}
 use Rattle.tv_base.specs.Width.{width_bytes}
@@ -10,6 +10,7 @@ use Rattle.tv_hart.specs.declared.place.Loaded.{Loaded}
 use Rattle.tv_hart.specs.declared.place.Loaded.TheVariants as loaded
 use Rattle.tv_hart.specs.declared.place.Stored.{Stored}
 use Rattle.tv_hart.specs.declared.place.Stored.TheVariants as stored
+use Rattle.tv_hart.specs.Hart.{first_hart}
 use Rattle.tv_hart.specs.Place.{Meaning}
 use Rattle.tv_intc.specs.declared.ending.Finish.{Finish}
 use Rattle.tv_ram.specs.Memory.{is_inside, loaded as number_in}
@@ -24,10 +25,13 @@ use Rattle.tv_spec.specs.Step.{event_of}
 use Rattle.tv_guest.specs.Burst.{Hosts}
 use Rattle.tv_guest.specs.GuestState.{GuestState}
 
--- it is what the event of this hart shows in each state for which the guest stands and in which the run goes on; else nothing
+-- it is what the event of this hart shows in each state for which the guest stands and in which the run goes on; nothing where the
+-- run doesn't go on, there is no such hart, or it waits for a load
 pub record LooksSo (guest : GuestState) (hart : ℕ) (seen : Shown) : Type 0 where
   pub would : (setup : Setup) (s : State) → Hosts setup s hart guest → s.mode ≡ mode.Running → seen ≡ (event_of s hart).2.shown
   pub over : guest.mode ≢ mode.Running → seen ≡ shown.Nothing
+  pub absent : length guest.harts ≤ hart → seen ≡ shown.Nothing
+  pub waits : (slice_index_or guest.harts hart (first_hart hart)).waits ≢ None → seen ≡ shown.Nothing
 
 -- where an access past so many bytes of memory leads
 abbrev pub port_at : ℕ → ℕ → ℕ → ℕ → Option (Target × ℕ)

@@ -322,8 +322,12 @@ impl Local {
 
 impl Place for Local {
     ghost use Rattle.tv_spec.specs.Local.{local_meaning};
+    ghost use Rattle.tv_guest.specs.Row.{IsCalm};
+    ghost use Rattle.std.proofs.Common.{refl};
 
     ghost meaning = { local_meaning };
+
+    ghost calm = { IsCalm };
 
     #[inline(always)]
     fn fetch(&mut self, addr: u64) -> Option<u32> {
@@ -346,6 +350,16 @@ impl Place for Local {
         self.store_port(width, addr, value)
     }
 
+    #[inline(always)]
+    fn number(&self, width: Width, addr: u64) -> Option<u64> {
+        self.ram.load(addr, width)
+    }
+
+    #[inline(always)]
+    fn put_number(&mut self, hart: HartNo, width: Width, addr: u64, value: u64) -> bool {
+        self.write(hart, width, addr, value)
+    }
+
     fn amo(&mut self, hart: HartNo, width: Width, addr: u64, op: AmoOp, value: u64) -> Option<u64> {
         let old = self.ram.load(addr, width)?;
         let _stored = self.write(hart, width, addr, amo(op, width, old, value));
@@ -366,6 +380,8 @@ impl Place for Local {
         let _stored = self.write(hart, width, addr, value);
         Some(true)
     }
+
+    ghost stays = { λ p. refl };
 }
 
 /// A device's action on memory, which ends reservations where it writes.

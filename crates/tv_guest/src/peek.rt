@@ -100,6 +100,8 @@ impl<'a> Place for Peek<'a> {
 
     ghost meaning = { looked };
 
+    ghost calm = { λ p q. Unit {0} };
+
     fn fetch(&mut self, addr: u64) -> Option<u32> {
         self.local.word(addr)
     }
@@ -116,6 +118,14 @@ impl<'a> Place for Peek<'a> {
             Some((target, off)) => self.store_port(target, width, off, value),
             None => Stored::Nothing,
         }
+    }
+
+    fn number(&self, _width: Width, _addr: u64) -> Option<u64> {
+        None
+    }
+
+    fn put_number(&mut self, _hart: HartNo, _width: Width, _addr: u64, _value: u64) -> bool {
+        false
     }
 
     fn amo(
@@ -142,6 +152,8 @@ impl<'a> Place for Peek<'a> {
     ) -> Option<bool> {
         None
     }
+
+    ghost stays = { λ p. tt };
 }
 
 /// What the next event of this hart would show where nothing is closed.

@@ -4,3 +4,4 @@ pub mod HartState
 pub mod Loads
 pub mod Operation
 pub mod Place
+pub mod Plain

@@ -7,7 +7,7 @@ mod loads;
 mod operation;
 mod place;
 
-ghost use Rattle.std.specs.Prelude.{◌≡◌, ◌==◌, ◌<◌, ◌%◌, if◌then◌else◌, is_some, IsSome, MatchOption, None};
+ghost use Rattle.std.specs.Prelude.{◌≡◌, ◌==◌, ◌<◌, ◌%◌, if◌then◌else◌, is_some, IsSome, MatchOption, None, true};
 ghost use Rattle.tv_base.specs.Width.{width_bytes};
 ghost use Rattle.tv_exec.specs.Atomic.{IsAmoWidth};
 ghost use Rattle.tv_hart.specs.Effect.{FitsEffect};
@@ -16,6 +16,7 @@ ghost use Rattle.tv_hart.specs.Hart.{
   first_hart,
   next_pc,
   put,
+  with_csrs,
   retired,
   trapped,
   waiting_for,
@@ -32,6 +33,9 @@ ghost use Rattle.tv_hart.specs.Hart.{
   OnNoEvent,
   WaitsAfter,
 };
+ghost use Rattle.std.specs.Bool.{OnTrue, OnFalse};
+ghost use Rattle.tv_hart.specs.Plain.{moved, IsPlainEvent, IsNumberLoaded, IsNumberStored, RestsOf};
+ghost use Rattle.tv_trap.specs.Traps.{counted_by, pending_interrupt};
 
 use effect::{Effect, csr_value_of, effect_of_operation};
 use loads::extended_number;
@@ -132,6 +136,56 @@ impl Hart {
         };
         let effect = effect_of_operation(operation_of_instr(instr), &self.registers, pc);
         self.carry_out(place, lines, word, effect)
+    }
+
+    /// Carries out the instruction at the pc where that puts a value, jumps, or loads or stores in memory, and traps not. `false`, and nothing
+    /// changed, where it does anything else. The event isn't counted, and no interrupt is taken.
+    #[inline(always)]
+    pub fn plain<P: Place>(&mut self, place: &mut P) -> bool
+        ensures event { OnTrue result (IsPlainEvent P.meaning self.old place.old self.new place.new) }
+        ensures rest { RestsOf self.old self.new }
+        ensures calm { P.calm place.old place.new }
+        ensures unchanged { OnFalse result ((self.new ≡ self.old) × (place.new ≡ place.old)) }
+    {
+        let pc = self.pc;
+        let Some(word) = place.fetch(pc) else {
+            return false;
+        };
+        let Some(instr) = tv_isa::decode(word) else {
+            return false;
+        };
+        match effect_of_operation(operation_of_instr(instr), &self.registers, pc) {
+            Effect::Put(rd, value) => self.go_on(rd, value),
+            Effect::Jump(rd, target) => self.go_to(rd, target),
+            Effect::Goto(target) => self.go_to(0, target),
+            Effect::Load(width, extension, rd, addr) => self.load_number(
+                place, width, extension, rd, addr,
+            ),
+            Effect::Store(width, addr, value) => self.store_number(place, width, addr, value),
+            Effect::Pass => self.go_on(0, 0),
+            Effect::Reserve(..)
+            | Effect::Conditional(..)
+            | Effect::Amo(..)
+            | Effect::Csr(..)
+            | Effect::Trap(_)
+            | Effect::Return => false,
+        }
+    }
+
+    /// Counts so many events, each of which retired its instruction.
+    #[inline(always)]
+    pub fn count(&mut self, events: u32)
+        ensures { self.new ≡ with_csrs self.old (counted_by self.old.csrs events) }
+    {
+        self.csrs.count_retired(events);
+    }
+
+    /// Whether an interrupt is to be taken, while these lines are up.
+    #[inline(always)]
+    pub fn is_interrupted(&self, lines: u64) -> bool
+        ensures { result ≡ is_some (pending_interrupt self.now.csrs lines) }
+    {
+        self.csrs.pending(lines).is_some()
     }
 
     /// The value of the load that the hart waits for, of which the low bytes of the load's width count.
@@ -445,6 +499,73 @@ impl Hart {
         self.pc = self.next();
         self.csrs.count(true, None);
         Did::Held
+    }
+
+    /// Puts a value into a register and goes on to the next instruction, uncounted.
+    #[inline(always)]
+    fn go_on(&mut self, rd: u8, value: u64) -> bool
+        requires { rd < 32 }
+        ensures done { result ≡ true }
+        ensures hart { self.new ≡ moved self.old (next_pc self.old) rd value }
+    {
+        let next = self.next();
+        self.set_register(rd, value);
+        self.pc = next;
+        true
+    }
+
+    /// Jumps to a target, with the address after the jump in a register, uncounted. `false`, and nothing changed, where the target isn't a multiple
+    /// of 4.
+    #[inline(always)]
+    fn go_to(&mut self, rd: u8, target: u64) -> bool
+        requires { rd < 32 }
+        ensures done { result ≡ (target % 4 == 0) }
+        ensures hart { OnTrue result (self.new ≡ moved self.old target rd (next_pc self.old)) }
+        ensures unchanged { OnFalse result (self.new ≡ self.old) }
+    {
+        if target % 4 != 0 {
+            return false;
+        }
+        let next = self.next();
+        self.set_register(rd, next);
+        self.pc = target;
+        true
+    }
+
+    /// Loads a number of memory into a register, uncounted. `false`, and nothing changed, where it isn't aligned or doesn't lie in memory.
+    #[inline(always)]
+    fn load_number<P: Place>(
+        &mut self,
+        place: &P,
+        width: Width,
+        extension: Extension,
+        rd: u8,
+        addr: u64,
+    ) -> bool
+        requires { rd < 32 }
+        ensures loaded { OnTrue result (IsNumberLoaded P.meaning self.old place.now width extension rd addr self.new) }
+        ensures unchanged { OnFalse result (self.new ≡ self.old) }
+    {
+        if !is_aligned(width, addr) {
+            return false;
+        }
+        match place.number(width, addr) {
+            Some(value) => self.go_on(rd, extended_number(extension, width, value)),
+            None => false,
+        }
+    }
+
+    /// Stores a number to memory, uncounted. `false`, and nothing changed, where it isn't aligned or doesn't lie in memory.
+    #[inline(always)]
+    fn store_number<P: Place>(&mut self, place: &mut P, width: Width, addr: u64, value: u64) -> bool
+        ensures stored { OnTrue result (IsNumberStored P.meaning self.old place.old width addr value self.new place.new) }
+        ensures calm { P.calm place.old place.new }
+        ensures unchanged { OnFalse result ((self.new ≡ self.old) × (place.new ≡ place.old)) }
+    {
+        if !is_aligned(width, addr) {
+            return false;
+        }
+        place.put_number(self.csrs.hart(), width, addr, value) && self.go_on(0, 0)
     }
 
     /// The address after the instruction at the pc.

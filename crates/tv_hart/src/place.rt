@@ -1,6 +1,7 @@
 //! What a hart reaches: the memory and the registers behind its addresses.
 
-ghost use Rattle.std.specs.Prelude.{◌≡◌, ◌%◌};
+ghost use Rattle.std.specs.Prelude.{◌≡◌, ◌%◌, ℕ, IfSome};
+ghost use Rattle.std.specs.Bool.{OnTrue, OnFalse};
 
 use tv_base::{HartNo, Width};
 use tv_isa::AmoOp;
@@ -38,6 +39,9 @@ pub trait Place {
     // What each call gives and leaves, as functions of the place.
     ghost meaning: { Meaning Self };
 
+    // What a store to memory alone leaves as it was.
+    ghost calm: { Self → Self → Type 0 };
+
     /// The word of 4 bytes at an address of memory; `None` where a byte of it lies elsewhere. What
     /// contracts see of the place stays as it was.
     fn fetch(&mut self, addr: u64) -> Option<u32>
@@ -56,6 +60,20 @@ pub trait Place {
         ensures meaning { (result, self.new) ≡ meaning.store self.old hart width addr value }
         ensures unchanged { OnNoStore result (self.new ≡ self.old) };
 
+    /// The number at an address of memory; `None` where a byte of it lies elsewhere, or the place doesn't tell. A load gives it to any
+    /// hart, and nothing is changed by that.
+    fn number(&self, width: Width, addr: u64) -> Option<u64>
+        requires aligned { addr % width_bytes width ≡ 0 }
+        ensures { IfSome result (λ value. (hart : ℕ) → meaning.load self.now hart width addr ≡ (Loaded.Value value, self.now)) };
+
+    /// Stores the low `width` bytes of a value to memory for a hart. `false` where a byte lies elsewhere, or the place takes none so; nothing
+    /// is changed then.
+    fn put_number(&mut self, hart: HartNo, width: Width, addr: u64, value: u64) -> bool
+        requires aligned { addr % width_bytes width ≡ 0 }
+        ensures stored { OnTrue result (meaning.store self.old hart width addr value ≡ (Stored.Done, self.new)) }
+        ensures calm { calm self.old self.new }
+        ensures unchanged { OnFalse result (self.new ≡ self.old) };
+
     /// Puts the value of an operation in the place of the number in memory, for a hart, and gives the old number.
     fn amo(&mut self, hart: HartNo, width: Width, addr: u64, op: AmoOp, value: u64) -> Option<u64>
         requires aligned { addr % width_bytes width ≡ 0 }
@@ -73,4 +91,6 @@ pub trait Place {
         requires aligned { addr % width_bytes width ≡ 0 }
         requires width { IsAmoWidth width }
         ensures meaning { (result, self.new) ≡ meaning.conditional self.old hart width addr value };
+
+    ghost stays: { (p : Self) → calm p p };
 }

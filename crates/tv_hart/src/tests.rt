@@ -1,6 +1,7 @@
 ghost use Rattle.std.specs.Prelude.{◌≡◌};
 
 mod listing;
+mod plain;
 
 use super::{Did, Hart, Loaded, Place, Stored};
 use std::test::Fail;
@@ -28,6 +29,8 @@ impl Place for Alike {
       conditional = λ p hart width addr value. (None, p);
     } };
 
+    ghost calm = { λ p q. Unit {0} };
+
     fn fetch(&mut self, _addr: u64) -> Option<u32> {
         self.word
     }
@@ -38,6 +41,14 @@ impl Place for Alike {
 
     fn store(&mut self, _hart: HartNo, _width: Width, _addr: u64, _value: u64) -> Stored {
         self.stored
+    }
+
+    fn number(&self, _width: Width, _addr: u64) -> Option<u64> {
+        None
+    }
+
+    fn put_number(&mut self, _hart: HartNo, _width: Width, _addr: u64, _value: u64) -> bool {
+        false
     }
 
     fn amo(
@@ -64,6 +75,8 @@ impl Place for Alike {
     ) -> Option<bool> {
         None
     }
+
+    ghost stays = { λ p. tt };
 }
 
 /// What a place was asked for.
@@ -140,6 +153,8 @@ impl Place for Recorder {
       );
     } };
 
+    ghost calm = { λ p q. Unit {0} };
+
     fn fetch(&mut self, _addr: u64) -> Option<u32> {
         Some(self.word)
     }
@@ -159,6 +174,15 @@ impl Place for Recorder {
         self.addr = addr;
         self.value = value;
         Stored::Done
+    }
+
+    fn number(&self, _width: Width, _addr: u64) -> Option<u64> {
+        None
+    }
+
+    fn put_number(&mut self, hart: HartNo, width: Width, addr: u64, value: u64) -> bool {
+        let _stored = self.store(hart, width, addr, value);
+        true
     }
 
     fn amo(&mut self, hart: HartNo, width: Width, addr: u64, op: AmoOp, value: u64) -> Option<u64> {
@@ -186,6 +210,8 @@ impl Place for Recorder {
         self.value = value;
         Some(self.reserved)
     }
+
+    ghost stays = { λ p. tt };
 }
 
 /// The pc of each hart here.

@@ -1,4 +1,5 @@
 -- A journal as contracts see it.
+use Rattle.std.specs.Option.{is_some}
 use Rattle.std.specs.Prelude.{◌≡◌, ℕ, ◌+◌, ◌-◌, ◌≤◌, ◌<◌, ◌&&◌, ◌++◌, ◌∷◌, [], List, Option, Some, None, Bool, true, false, nat_le, if◌then◌else◌, slice_get}
 use Rattle.tv_base.specs.declared.limits.TheConstants.{PIECE_BYTES}
 use Rattle.tv_base.specs.declared.Why.{Why}
@@ -7,8 +8,8 @@ use Rattle.tv_journal.specs.declared.Entry.{Entry}
 use Rattle.tv_journal.specs.declared.Entry.TheVariants as entry
 use Rattle.tv_journal.specs.declared.record.EndLine.{EndLine}
 use Rattle.tv_journal.specs.Entries.{Record, Run, One, record_count, records_of, payload_in, payload_bytes}
-use Rattle.tv_journal.specs.Grammar.{EndFits, outer_of}
-use Rattle.tv_journal.specs.Stores.{entry_and_count}
+use Rattle.tv_journal.specs.Grammar.{EndFits, last_record, outer_of}
+use Rattle.tv_journal.specs.Stores.{entry_and_count, tick_of}
 
 -- its entries, one for each event; the end that no event made, with the number of entries before it; its room, in records
 -- and in bytes of payload; and what of that is reserved for entries to come
@@ -137,3 +138,7 @@ tick_from at _ = (None, at)
 
 abbrev pub next_tick : List Record → ℕ → Option ℕ × ℕ
 next_tick records at = tick_from at (slice_get records at)
+
+-- whether the last entry is a tick
+unfoldable pub ends_with_tick : List Entry → Bool
+ends_with_tick entries = is_some (tick_of (last_record (records_of entries)))

@@ -10,6 +10,7 @@ ghost use Rattle.tv_journal.specs.Entries.{payload_bytes, record_count, records_
 ghost use Rattle.tv_journal.specs.Grammar.{cause_byte, SpellsJournal, IsLongestFront};
 ghost use Rattle.tv_journal.specs.Writing.{IsSaved};
 ghost use Rattle.tv_journal.specs.Journals.{
+  ends_with_tick,
   given_back,
   has_room,
   has_free,
@@ -333,6 +334,13 @@ impl Journal {
             }
             None => None,
         }
+    }
+
+    /// Whether the last entry is a tick.
+    pub fn ends_with_tick(&self) -> bool
+        ensures { result ≡ ends_with_tick self.now.entries }
+    {
+        self.store.last_tick().is_some()
     }
 
     /// The number of records.

@@ -154,6 +154,16 @@ impl Store {
         }
     }
 
+    /// What the last record adds to the time, if it is a tick.
+    pub fn last_tick(&self) -> Option<u32>
+        ensures { result ≡ tick_of (last_record (held self.now)) }
+    {
+        match self.records.last() {
+            Some(Stored::Tick(n)) => Some(*n),
+            _ => None,
+        }
+    }
+
     /// Adds a record.
     ///
     /// # Errors

@@ -267,8 +267,11 @@ fn journals_have_their_files(rt: HostRuntime) -> Result<(), Fail> {
     for _event in 0..64u8 {
         assert!(rt; add(&rt, &mut journal, &Entry::Hart(hart(&rt, 0))));
     }
+    assert!(rt; !journal.ends_with_tick());
     assert!(rt; add(&rt, &mut journal, &Entry::Tick(64)));
+    assert!(rt; journal.ends_with_tick());
     assert!(rt; add_events(&rt, &mut journal, hart(&rt, 0), 1));
+    assert!(rt; !journal.ends_with_tick());
     assert!(rt; add_events(&rt, &mut journal, hart(&rt, 0), 63));
     assert!(rt; !add(&rt, &mut journal, &Entry::Tick(64)));
     assert!(rt; journal.outer().is_none());

@@ -1,5 +1,5 @@
 -- What the monitor's calls do.
-use Rattle.std.specs.Prelude.{◌≡◌, ◌*◌, ◌^◌, ℕ, suc, ◌<◌, ◌≤◌, ◌++◌, [], List, length, Option, Some, None, Bool, true, false, Result, Ok, Err, ⊤, map, replicate}
+use Rattle.std.specs.Prelude.{◌≡◌, ◌*◌, ◌^◌, ℕ, suc, ◌<◌, ◌≤◌, ◌++◌, [], List, length, Option, Some, None, Bool, true, false, Result, Ok, Err, ⊤, replicate}
 use Rattle.tv_base.specs.declared.limits.TheConstants.{PAGE_BYTES}
 use Rattle.tv_base.specs.declared.Why.{Why}
 use Rattle.tv_guest.specs.Burst.{Stops, events_of}
@@ -10,7 +10,6 @@ use Rattle.tv_spec.specs.declared.Closed.{Closed}
 use Rattle.tv_spec.specs.declared.Mode.{Mode}
 use Rattle.tv_spec.specs.declared.Mode.TheVariants as mode
 use Rattle.tv_spec.specs.declared.Shown.{Shown}
-use Rattle.tv_machine.specs.declared.kinds.DeviceSpec.{DeviceSpec}
 use Rattle.tv_plan.specs.Devices.{DeviceState}
 use Rattle.tv_spec.specs.Legal.{after}
 use Rattle.tv_spec.specs.Setup.{first_devices, setup_of}

@@ -11,15 +11,24 @@ use super::{Monitor, Replayed, StepFault, replay};
 use std::alloc::Global;
 use std::process::Abort;
 use std::test::Fail;
-use tv_base::{DevNo, FLAT_RAM_BYTES, HartNo, Memory, PAGE_BYTES, RAM_BASE, Rights};
+use tv_base::{Access, DevNo, FLAT_RAM_BYTES, HartNo, Memory, PAGE_BYTES, RAM_BASE, Rights, Why};
 use tv_fake::first_run::{IMAGE, JOURNAL};
+use tv_guest::Guest;
 use tv_items::Heard;
 use tv_journal::{Entry, Journal};
 use tv_machine::{DeviceKind, DeviceSpec, Machine, MemRange, RangeList};
 use tv_small::Probe;
+use tv_spec::{Closed, Shown};
 
 /// The image of one jump to itself.
 const LOOP: [u8; 4] = [0x6f, 0x00, 0x00, 0x00];
+
+/// Nothing is closed to a hart.
+const OPEN: Closed = Closed {
+    debug: false,
+    loads: [false; 8],
+    stores: [false; 8],
+};
 
 /// The devices of a machine without devices.
 const NO_DEVICES: [Probe; 0] = [];
@@ -332,61 +341,44 @@ fn first_probe(alloc: Global) -> [Probe; 1]
     }
 }
 
-/// Entries in a row, of the first device where they are a device's.
-#[derive(Clone, Copy)]
-enum Move {
-    /// So many events of hart 0.
-    Events(u32),
-    /// So many of hart 1.
-    Others(u32),
-    Take,
-    Send,
-    ServeMem,
-    ServeIrq,
-    Got,
-    Reply,
-    Deliver,
-    Intend,
-    Did,
-    Tick,
-}
-
-/// The entry that is made, or the first of them.
-fn entry_of(rt: &impl Abort, made: Move) -> Entry
+/// The entry of a letter, or the first of those of a digit. In a text that says how a run goes on, a digit is so many events of
+/// hart 0, `o` one of hart 1 and `t` a tick; of the first device, `T` is Take, `S` Send, `M` ServeMem, `I` ServeIrq, `G` Got,
+/// `R` Reply, `D` Deliver, `N` Intend and `d` Did.
+fn entry_of(rt: &impl Abort, letter: u8) -> Entry
     ensures { IsEntry result }
 {
     let device = DevNo::new(0).expect(rt, "a device");
-    match made {
-        Move::Events(_) => Entry::Hart(HartNo::FIRST),
-        Move::Others(_) => Entry::Hart(HartNo::new(1).expect(rt, "a hart")),
-        Move::Take => Entry::Take(device),
-        Move::Send => Entry::Send(device),
-        Move::ServeMem => Entry::ServeMem(device),
-        Move::ServeIrq => Entry::ServeIrq(device),
-        Move::Got => Entry::Got(device),
-        Move::Reply => Entry::Reply(device),
-        Move::Deliver => Entry::Deliver(device),
-        Move::Intend => Entry::Intend(device),
-        Move::Did => Entry::Did(device, Heard::Done),
-        Move::Tick => Entry::Tick(64),
+    match letter {
+        b'o' => Entry::Hart(HartNo::new(1).expect(rt, "a hart")),
+        b't' => Entry::Tick(64),
+        b'T' => Entry::Take(device),
+        b'S' => Entry::Send(device),
+        b'M' => Entry::ServeMem(device),
+        b'I' => Entry::ServeIrq(device),
+        b'G' => Entry::Got(device),
+        b'R' => Entry::Reply(device),
+        b'D' => Entry::Deliver(device),
+        b'N' => Entry::Intend(device),
+        b'd' => Entry::Did(device, Heard::Done),
+        _ => Entry::Hart(HartNo::FIRST),
     }
 }
 
 /// How many entries it is.
-fn times(made: Move) -> u32 {
-    match made {
-        Move::Events(count) | Move::Others(count) => count,
+fn times(letter: u8) -> u8 {
+    match letter {
+        b'1'..=b'9' => letter - b'0',
         _ => 1,
     }
 }
 
 /// A journal of these entries.
-fn journal_of(rt: &(impl AllocGlobal + Abort), moves: &[Move]) -> Result<Journal, Fail> {
+fn journal_of(rt: &(impl AllocGlobal + Abort), moves: &str) -> Result<Journal, Fail> {
     let mut journal = Journal::new(rt.alloc(), 100, 0)?;
-    for &made in moves {
-        for _ in 0..times(made) {
+    for &letter in moves.as_bytes() {
+        for _ in 0..times(letter) {
             assert!(rt; journal.events() < 10000 && journal.outer().is_none());
-            assert!(rt; journal.push(&entry_of(rt, made)));
+            assert!(rt; journal.push(&entry_of(rt, letter)));
         }
     }
     Ok(journal)
@@ -394,27 +386,14 @@ fn journal_of(rt: &(impl AllocGlobal + Abort), moves: &[Move]) -> Result<Journal
 
 #[test]
 fn a_loaded_value_reaches_its_hart(rt: HostRuntime) -> Result<(), Fail> {
-    use Move::{Deliver, Events, Got, Reply, Send, ServeMem, Take};
     let image = image_of(&rt, &READING)?;
     assert!(rt; image.len() <= FLAT_RAM_BYTES as usize);
     let machine = with_probe(rt.alloc(), Rights::READ)?;
     let devices = first_probe(rt.alloc());
     let mut monitor = Monitor::new(rt.alloc(), &machine, &devices, &image)?;
-    for made in [
-        Events(8),
-        Take,
-        Take,
-        Take,
-        Send,
-        ServeMem,
-        Got,
-        Take,
-        Reply,
-        Deliver,
-        Events(3),
-    ] {
-        for _ in 0..times(made) {
-            assert!(rt; monitor.step(&entry_of(&rt, made)).is_ok());
+    for &letter in "8TTTSMGTRD3".as_bytes() {
+        for _ in 0..times(letter) {
+            assert!(rt; monitor.step(&entry_of(&rt, letter)).is_ok());
         }
     }
     // the low byte of auipc x6, 0
@@ -482,35 +461,30 @@ fn probing(upper: u32, lower: u32, len: u32, go: u32) -> [u32; 34] {
 
 #[test]
 fn writes_of_a_device_are_done_where_they_are_granted(rt: HostRuntime) -> Result<(), Fail> {
-    use Move::{Deliver, Events, Got, Reply, Send, ServeMem, Take};
-    let service = [Send, ServeMem, Got];
-    // The parts of the address, LEN, GO, whether an action is asked for, and what the guest puts.
-    let rows: [(u32, u32, u32, u32, bool, &[u8]); 7] = [
+    // The parts of the address, LEN, GO, what comes of the action that is asked for, and what the guest puts.
+    let rows: [(u32, u32, u32, u32, &str, &[u8]); 7] = [
         // A byte of the reserved ones, and nothing.
-        (0, 0x207, 1, 2, true, b"11A\0\01"),
-        (0, 0x207, 1, 0, false, b"00\0\0\01"),
+        (0, 0x207, 1, 2, "SMG", b"11A\0\01"),
+        (0, 0x207, 1, 0, "", b"00\0\0\01"),
         // The bytes before and behind them.
-        (0, 0x1f8, 8, 2, true, b"10\0\0\01"),
-        (0, 0x208, 8, 2, true, b"10\0\0\01"),
+        (0, 0x1f8, 8, 2, "SMG", b"10\0\0\01"),
+        (0, 0x208, 8, 2, "SMG", b"10\0\0\01"),
         // Across the end of what is granted, and up to it.
-        (1, 0xffe, 4, 2, true, b"20\0\0\01"),
-        (1, 0xffe, 2, 2, true, b"10\0AA1"),
+        (1, 0xffe, 4, 2, "SMG", b"20\0\0\01"),
+        (1, 0xffe, 2, 2, "SMG", b"10\0AA1"),
         // More than a probe writes at once.
-        (0, 0x207, 9, 2, false, b"20\0\0\01"),
+        (0, 0x207, 9, 2, "", b"20\0\0\01"),
     ];
-    for (row, (upper, lower, len, go, is_asked, put)) in rows.into_iter().enumerate() {
+    for (row, (upper, lower, len, go, service, put)) in rows.into_iter().enumerate() {
         let image = image_of(&rt, &probing(upper, lower, len, go))?;
         assert!(rt; image.len() <= FLAT_RAM_BYTES as usize);
         let machine = with_probe(rt.alloc(), Rights::WRITE)?;
         let devices = first_probe(rt.alloc());
         let mut monitor = Monitor::new(rt.alloc(), &machine, &devices, &image)?;
-        let before = [Events(16), Take, Take, Take, Take];
-        let after = [Take, Reply, Deliver, Events(17)];
-        let between: &[Move] = if is_asked { &service } else { &[] };
-        for part in [&before[..], between, &after[..]] {
-            for &made in part {
-                for _ in 0..times(made) {
-                    assert!(rt; monitor.step(&entry_of(&rt, made)).is_ok(), "row {row}");
+        for part in ["97TTTT", service, "TRD98"] {
+            for &letter in part.as_bytes() {
+                for _ in 0..times(letter) {
+                    assert!(rt; monitor.step(&entry_of(&rt, letter)).is_ok(), "row {row}");
                 }
             }
         }
@@ -521,211 +495,45 @@ fn writes_of_a_device_are_done_where_they_are_granted(rt: HostRuntime) -> Result
 
 #[test]
 fn moves_of_a_device_keep_their_order(rt: HostRuntime) -> Result<(), Fail> {
-    use Move::{
-        Deliver, Did, Events, Got, Intend, Others, Reply, Send, ServeIrq, ServeMem, Take, Tick,
-    };
     use Replayed::{Illegal, Legal};
-    let rows: [(&[u32], &[Move], Replayed); 26] = [
+    let rows: [(&[u32], &str, Replayed); 26] = [
         // A read of memory, and an interrupt.
-        (
-            &READING,
-            &[
-                Events(8),
-                Take,
-                Take,
-                Take,
-                Send,
-                ServeMem,
-                Got,
-                Take,
-                Reply,
-                Deliver,
-                Events(3),
-            ],
-            Legal(None),
-        ),
-        (
-            &ALARMING,
-            &[
-                Events(8),
-                Take,
-                Take,
-                Take,
-                Send,
-                ServeIrq,
-                Got,
-                Take,
-                Tick,
-                Reply,
-                Deliver,
-                Events(3),
-            ],
-            Legal(None),
-        ),
+        (&READING, "8TTTSMGTRD3", Legal(None)),
+        (&ALARMING, "8TTTSIGTtRD3", Legal(None)),
         // A device takes no item before there is one, nor more than there are.
-        (&READING, &[Take], Illegal(0)),
-        (&READING, &[Events(3), Take, Take], Illegal(2)),
+        (&READING, "T", Illegal(0)),
+        (&READING, "3TT", Illegal(2)),
         // A service before the load, and the load before the end of a service.
-        (
-            &READING,
-            &[
-                Events(7),
-                Take,
-                Take,
-                Take,
-                Send,
-                ServeMem,
-                Got,
-                Events(1),
-                Take,
-                Reply,
-                Deliver,
-                Events(3),
-            ],
-            Legal(None),
-        ),
-        (&READING, &[Events(8), Take, Take, Take, Take], Illegal(4)),
-        (
-            &READING,
-            &[Events(8), Take, Take, Take, Send, Take],
-            Illegal(5),
-        ),
-        (
-            &READING,
-            &[Events(8), Take, Take, Take, Send, ServeMem, Take],
-            Illegal(6),
-        ),
+        (&READING, "7TTTSMG1TRD3", Legal(None)),
+        (&READING, "8TTTT", Illegal(4)),
+        (&READING, "8TTTST", Illegal(5)),
+        (&READING, "8TTTSMT", Illegal(6)),
         // Nothing to ask; asked twice; asked again before the reply was got.
-        (&READING, &[Events(8), Take, Take, Send], Illegal(3)),
-        (
-            &READING,
-            &[Events(8), Take, Take, Take, Send, Send],
-            Illegal(5),
-        ),
-        (
-            &READING,
-            &[Events(8), Take, Take, Take, Send, ServeMem, Got, Send],
-            Illegal(7),
-        ),
+        (&READING, "8TTS", Illegal(3)),
+        (&READING, "8TTTSS", Illegal(5)),
+        (&READING, "8TTTSMGS", Illegal(7)),
         // A service that was not asked, or of another way, or twice.
-        (
-            &READING,
-            &[Events(8), Take, Take, Take, ServeMem],
-            Illegal(4),
-        ),
-        (
-            &READING,
-            &[Events(8), Take, Take, Take, Send, ServeIrq],
-            Illegal(5),
-        ),
-        (
-            &ALARMING,
-            &[Events(8), Take, Take, Take, Send, ServeMem],
-            Illegal(5),
-        ),
-        (
-            &READING,
-            &[Events(8), Take, Take, Take, Send, ServeMem, ServeMem],
-            Illegal(6),
-        ),
+        (&READING, "8TTTM", Illegal(4)),
+        (&READING, "8TTTSI", Illegal(5)),
+        (&ALARMING, "8TTTSM", Illegal(5)),
+        (&READING, "8TTTSMM", Illegal(6)),
         // A reply that no service gave.
-        (
-            &READING,
-            &[Events(8), Take, Take, Take, Send, Got],
-            Illegal(5),
-        ),
+        (&READING, "8TTTSG", Illegal(5)),
         // No answer is due to a store; a value is delivered after its Reply, and once.
-        (&READING, &[Events(8), Take, Reply], Illegal(2)),
-        (
-            &READING,
-            &[
-                Events(8),
-                Take,
-                Take,
-                Take,
-                Send,
-                ServeMem,
-                Got,
-                Take,
-                Deliver,
-            ],
-            Illegal(8),
-        ),
-        (
-            &READING,
-            &[
-                Events(8),
-                Take,
-                Take,
-                Take,
-                Send,
-                ServeMem,
-                Got,
-                Take,
-                Reply,
-                Deliver,
-                Deliver,
-            ],
-            Illegal(10),
-        ),
+        (&READING, "8TR", Illegal(2)),
+        (&READING, "8TTTSMGTD", Illegal(8)),
+        (&READING, "8TTTSMGTRDD", Illegal(10)),
         // Nothing is taken while a value is due.
-        (
-            &READING,
-            &[
-                Events(8),
-                Take,
-                Take,
-                Take,
-                Send,
-                ServeMem,
-                Got,
-                Take,
-                Others(3),
-                Take,
-            ],
-            Illegal(9),
-        ),
-        (
-            &READING,
-            &[
-                Events(8),
-                Take,
-                Take,
-                Take,
-                Send,
-                ServeMem,
-                Got,
-                Take,
-                Others(3),
-                Reply,
-                Take,
-                Deliver,
-            ],
-            Legal(None),
-        ),
+        (&READING, "8TTTSMGToooT", Illegal(9)),
+        (&READING, "8TTTSMGToooRTD", Legal(None)),
         // The hart waits until its load is delivered.
-        (&READING, &[Events(9)], Illegal(0)),
-        (
-            &READING,
-            &[
-                Events(8),
-                Take,
-                Take,
-                Take,
-                Send,
-                ServeMem,
-                Got,
-                Take,
-                Reply,
-                Events(1),
-            ],
-            Illegal(9),
-        ),
+        (&READING, "9", Illegal(0)),
+        (&READING, "8TTTSMGTR1", Illegal(9)),
         // A probe does nothing outside the machine.
-        (&READING, &[Events(8), Take, Take, Take, Intend], Illegal(4)),
-        (&READING, &[Events(8), Take, Take, Take, Did], Illegal(4)),
+        (&READING, "8TTTN", Illegal(4)),
+        (&READING, "8TTTd", Illegal(4)),
         // A move of a device comes between two ticks, or a tick is refused.
-        (&READING, &[Events(8), Tick, Take, Tick, Tick], Illegal(4)),
+        (&READING, "8tTtt", Illegal(4)),
     ];
     let machine = with_probe(rt.alloc(), Rights::READ)?;
     let devices = first_probe(rt.alloc());
@@ -736,5 +544,41 @@ fn moves_of_a_device_keep_their_order(rt: HostRuntime) -> Result<(), Fail> {
         let found = replay(rt.alloc(), &machine, &devices, &image, &journal)?;
         assert_eq!(rt; found, want, "row {row}");
     }
+    Ok(())
+}
+
+/// What an event shows.
+fn name_of(shown: Shown) -> &'static str {
+    match shown {
+        Shown::Nothing => "nothing",
+        Shown::Byte(_) => "byte",
+        Shown::Finish(_) => "finish",
+        Shown::Access(_, Access::Load { .. }) => "load",
+        Shown::Access(_, Access::Store { .. }) => "store",
+    }
+}
+
+#[test]
+fn a_hart_that_makes_no_event_would_show_nothing(rt: HostRuntime) -> Result<(), Fail> {
+    let image = image_of(&rt, &READING)?;
+    assert!(rt; image.len() <= FLAT_RAM_BYTES as usize);
+    let machine = with_probe(rt.alloc(), Rights::READ)?;
+    let mut guest = Guest::new(rt.alloc(), &machine, &image)?;
+    let second = HartNo::new(1).expect(&rt, "a hart");
+    let absent = HartNo::new(2).expect(&rt, "a hart");
+    for want in [
+        "nothing", "nothing", "store", "nothing", "store", "nothing", "store", "load",
+    ] {
+        assert_eq!(rt; name_of(guest.looks(HartNo::FIRST)), want);
+        let (made, shown) = guest.burst(HartNo::FIRST, 1, &OPEN);
+        assert_eq!(rt; (made, name_of(shown)), (1, want));
+    }
+    // it waits for its load; the other hart doesn't, until the run ends
+    assert_eq!(rt; name_of(guest.looks(HartNo::FIRST)), "nothing");
+    guest.burst(second, 2, &OPEN);
+    assert_eq!(rt; name_of(guest.looks(second)), "store");
+    assert_eq!(rt; name_of(guest.looks(absent)), "nothing");
+    guest.end(Why::Full);
+    assert_eq!(rt; name_of(guest.looks(second)), "nothing");
     Ok(())
 }

@@ -1,6 +1,6 @@
 //! One device's side of the monitor.
 
-ghost use Rattle.std.specs.Prelude.{◌≡◌, ◌≢◌, ◌↔◌, ◌≤◌, ◌<◌, ◌+◌, ◌-◌, ◌^◌, [], false, true, IfOk, IfSome, IfNone, None, Some, length, nat_le};
+ghost use Rattle.std.specs.Prelude.{◌≡◌, ◌≢◌, ◌↔◌, ◌≤◌, ◌<◌, ◌+◌, ◌-◌, ◌^◌, [], false, true, IfOk, IfSome, IfNone, None, Some, is_some, length, nat_le};
 ghost use Rattle.tv_base.specs.declared.limits.TheConstants.{LINES, TUBE_MESSAGES};
 ghost use Rattle.tv_items.specs.Fits.{IsAction, way_of};
 ghost use Rattle.tv_items.specs.declared.action.Way.TheVariants.{Outside};
@@ -170,6 +170,17 @@ impl Side {
             Way::Memory => self.memory.asked.put(&msg, &mut self.buffer),
             Way::Interrupt => self.interrupts.asked.put(&msg, &mut self.buffer),
             Way::Outside => unreachable!(),
+        }
+    }
+
+    /// Whether a request lies in a service's lane.
+    pub fn has_request(&self, way: Way) -> bool
+        ensures { result ≡ is_some (lane_of self.now way).asked }
+    {
+        match way {
+            Way::Memory => !self.memory.asked.is_empty(),
+            Way::Interrupt => !self.interrupts.asked.is_empty(),
+            Way::Outside => false,
         }
     }
 

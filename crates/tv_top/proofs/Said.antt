@@ -1,5 +1,5 @@
 -- A line that is put at once, or in parts.
-use Rattle.std.proofs.Common.{◌≡◌, ℕ, ◌≤◌, ◌<◌, List, [], ◌++◌, length, take, drop, codes, refl, ap, sym, ◌∙◌, append_assoc, append-nil, inl, inr, arith, Result, Ok, Err, OnOk, OnErr, Option}
+use Rattle.std.proofs.Common.{◌≡◌, ℕ, ◌≤◌, ◌<◌, List, [], ◌++◌, length, take, drop, codes, refl, ap, sym, ◌∙◌, append_assoc, append-nil, inl, inr, arith, Result, Ok, Err, OnOk, OnErr}
 use Rattle.std.specs.Prelude.{⊤}
 use Rattle.std.specs.Option.{option_map}
 use Rattle.std.specs.Result.{is_err}

@@ -1,6 +1,6 @@
 -- Traps, interrupts and counters of a hart that has machine mode alone (RISC-V Privileged Architecture,
 -- chapter "Machine-Level ISA").
-use Rattle.std.specs.Prelude.{◌==◌, ℕ, ◌+◌, ◌%◌, ◌^◌, bit_and, Bool, true, false, if◌then◌else◌, Option, Some, None}
+use Rattle.std.specs.Prelude.{◌==◌, ℕ, zero, suc, ◌+◌, ◌%◌, ◌^◌, bit_and, Bool, true, false, if◌then◌else◌, Option, Some, None}
 use Rattle.tv_trap.specs.CsrState.{CsrState}
 use Rattle.tv_trap.specs.Registers.{is_set}
 
@@ -67,3 +67,8 @@ counted s retired written = record s {
   mcycle = if wrote written 0xb00 then s.mcycle else risen s.mcycle;
   minstret = if wrote written 0xb02 then s.minstret else if retired then risen s.minstret else s.minstret;
 }
+
+-- so many events counted, each of which retired its instruction and wrote no counter
+abbrev pub counted_by : CsrState → ℕ → CsrState
+counted_by s zero = s
+counted_by s (suc events) = counted (counted_by s events) true None

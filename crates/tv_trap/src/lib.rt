@@ -8,7 +8,7 @@
 
 ghost use Rattle.std.specs.Prelude.{◌≡◌, ◌<◌, ◌%◌, None, if◌then◌else◌, is_some, unwrap_or};
 ghost use Rattle.tv_trap.specs.Registers.{aligned, csr_read, csr_write, is_set, mstatus, value_of, with_value};
-ghost use Rattle.tv_trap.specs.Traps.{counted, first_csrs, first_interrupt, pending_interrupt, trap_entry, trap_return};
+ghost use Rattle.tv_trap.specs.Traps.{counted, counted_by, first_csrs, first_interrupt, pending_interrupt, trap_entry, trap_return};
 
 mod registers;
 
@@ -266,6 +266,16 @@ impl Csrs {
         if retired && written != Some(Register::MINSTRET) {
             self.minstret = self.minstret.wrapping_add(1);
         }
+    }
+
+    /// Counts so many events, each of which retired an instruction and wrote no counter.
+    #[inline(always)]
+    #[tactic(auto, using(crate::proofs::Counts::all_counted))]
+    pub fn count_retired(&mut self, events: u32)
+        ensures { self.new ≡ counted_by self.old events }
+    {
+        self.mcycle = self.mcycle.wrapping_add(u64::from(events));
+        self.minstret = self.minstret.wrapping_add(u64::from(events));
     }
 }
 

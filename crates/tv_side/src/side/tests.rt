@@ -161,6 +161,7 @@ fn a_request_goes_to_its_service_and_the_reply_comes_back(rt: HostRuntime) -> Re
     assert!(rt; side.is_idle(Way::Memory) && side.is_idle(Way::Interrupt));
     side.request(&Action::Raise);
     assert!(rt; side.is_idle(Way::Memory) && !side.is_idle(Way::Interrupt));
+    assert!(rt; !side.has_request(Way::Memory) && side.has_request(Way::Interrupt));
     assert!(rt; side.take_request(Way::Memory).is_none());
     assert!(rt;
         matches!(
@@ -168,6 +169,7 @@ fn a_request_goes_to_its_service_and_the_reply_comes_back(rt: HostRuntime) -> Re
             Some(Msg::Raise { tag: 0 })
         )
     );
+    assert!(rt; !side.has_request(Way::Interrupt));
     assert!(rt; side.take_request(Way::Interrupt).is_none());
     side.put_answer(Way::Interrupt, &Msg::IrqDone { tag: 0 });
     assert!(rt; side.hear(Way::Memory).is_none());

@@ -16,6 +16,6 @@ hand-requires-clause-awaits g c =
 pub returns-clause-turned : goal.returns-clause-turned
 returns-clause-turned g c =
     rw (← c.self.view_is)
-    (subst (λ (s : Script (End BlockState) BlockState). TurnedSo g.P.Port.moved g.P.Port.over g.P.Port.stopped c.args.port.now s c.hand.new.port (state_of c.hand.new.self) c.hand.result)
+    (subst (λ (s : Script (End BlockState) BlockState). TurnedSo g.P.Port.moved g.P.Port.over g.P.Port.stopped c.args.port.now s c.hand.new.port (state_of c.hand.new.device) c.hand.result)
     (sym (completed_hand (seen c.self.inside) c.args.queue.now c.complete.new.ring c.args.head (c.args.len + 1) (response_bytes c.args.len (response_of c.self.inside.ring.answered c.args.outcome)) c.complete.ensures.ring c.complete.ensures.len))
     c.hand.ensures.turned)

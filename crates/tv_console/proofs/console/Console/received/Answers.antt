@@ -1,9 +1,10 @@
-use Rattle.std.proofs.Common.{rules, ◌++◌, refl, subst, length}
+use Rattle.std.proofs.Common.{rules, ◌++◌, refl, subst, sym, take, length}
 use Rattle.tv_script.specs.Scripts.{Script, AwaitsAll}
-use Rattle.tv_script.specs.Services.{End}
+use Rattle.tv_script.specs.Services.{End, TurnedSo}
 use Rattle.tv_script.proofs.Scripts.{reached_here}
-use Rattle.tv_plan.specs.Console.{ConsoleState}
-use Rattle.tv_console.specs.Parts.{state_of, kept_of, took_of}
+use Rattle.tv_plan.specs.Console.{ConsoleState, console_hand}
+use Rattle.tv_serving.specs.Steps.{took_of}
+use Rattle.tv_console.specs.Parts.{state_of, kept_of}
 use Rattle.tv_console.proofs.States.{received_none, received_some}
 use Rattle.tv_console.proofs.console.Console.received.Goals as goal
 
@@ -24,3 +25,12 @@ hand-requires-clause-awaits g c =
     (length c.as_slice-bytes.result.now) (rw (← c.as_slice-bytes.ensures.bytes) (search rules)) (rw (c.requires.none, c.as_slice-bytes.ensures.bytes) refl) (rw c.as_slice-bytes.ensures.bytes refl))
     c.requires.awaits in
     rw c.answer.ensures (let r = rw (← c.self.view_is) at handed in r)
+
+pub returns-clause-turned : goal.returns-clause-turned
+returns-clause-turned g c =
+    let handed : TurnedSo g.P.Port.moved g.P.Port.over g.P.Port.stopped c.args.port.now (console_hand (state_of c.args.self.now) c.args.queue.now (took_of c.args.self.now.ring c.args.head) (take (length c.as_slice-bytes.result.now) (c.args.self.now.ring.answered ++ c.as_slice-bytes.result.now))) c.hand.new.port (state_of c.hand.new.device) c.hand.result =
+    rw (← c.self.view_is) (let r = rw c.answer.ensures at c.hand.ensures.turned in r) in
+    subst (λ (s : Script (End ConsoleState) ConsoleState). TurnedSo g.P.Port.moved g.P.Port.over g.P.Port.stopped c.args.port.now s c.hand.new.port (state_of c.hand.new.device) c.hand.result)
+    (sym (received_some (kept_of c.args.self.now) (state_of c.args.self.now) c.args.queue.now (took_of c.args.self.now.ring c.args.head) c.args.bytes.now (c.args.self.now.ring.answered ++ c.as_slice-bytes.result.now)
+    (length c.as_slice-bytes.result.now) (rw (← c.as_slice-bytes.ensures.bytes) (search rules)) (rw (c.requires.none, c.as_slice-bytes.ensures.bytes) refl) (rw c.as_slice-bytes.ensures.bytes refl)))
+    handed
