@@ -32,3 +32,4 @@ pub mod Takes
 pub mod Taking
 pub mod Ticks
 pub mod Turns
+pub mod Waiting

@@ -1,7 +1,9 @@
--- Who made the items of devices: a hart of the machine each, since nothing else makes any. So each answer is the value of a
--- hart's load.
+-- Who made the items of devices: a hart of the machine each, by an access, since nothing else makes any. So each answer is the value
+-- of a hart's load.
 use Rattle.std.proofs.Common.{◌≡◌, ℕ, zero, suc, ◌<◌, List, [], ◌∷◌, ◌++◌, Option, Some, None, refl, subst}
 use Rattle.std.specs.List.{slice_get}
+use Rattle.tv_base.specs.declared.Access.{Access}
+use Rattle.tv_base.specs.declared.Access.TheVariants as access
 use Rattle.tv_items.specs.declared.item.Item.{Item}
 use Rattle.tv_items.specs.declared.item.Item.TheVariants as item
 use Rattle.tv_journal.specs.declared.Entry.TheVariants as entry
@@ -27,7 +29,13 @@ use Rattle.tv_spec.proofs.Updates.{update_elim}
 
 -- 1. What is said of items, answers and devices
 
+abbrev pub IsAccess : Item → Type 0
+IsAccess (item.Load width off) = Unit {0}
+IsAccess (item.Store width off value) = Unit {0}
+IsAccess i = ⊥
+
 pub record IsOfHart (harts : ℕ) (m : Made) : Type 0 where
+  pub access : IsAccess m.item
   pub hart : ℕ
   pub maker_is : m.maker ≡ Maker.Hart hart
   pub exists : hart < harts
@@ -65,7 +73,7 @@ answers_more : (harts : ℕ) (xs ys : List Due) → AreForHarts harts xs → Are
 answers_more harts [] ys a b = b
 answers_more harts (x ∷ xs) ys a b = (a.0, answers_more harts xs ys a.1 b)
 
-item_at : (harts : ℕ) (ms : List Made) (k : ℕ) (m : Made) → AreOfHarts harts ms → slice_get ms k ≡ Some m → IsOfHart harts m
+pub item_at : (harts : ℕ) (ms : List Made) (k : ℕ) (m : Made) → AreOfHarts harts ms → slice_get ms k ≡ Some m → IsOfHart harts m
 item_at harts [] k m all at = cc
 item_at harts (x ∷ ms) zero m all at = let same : x ≡ m = cc in subst (λ (y : Made). IsOfHart harts y) same all.0
 item_at harts (x ∷ ms) (suc k) m all at = item_at harts ms k m all.1 at
@@ -83,14 +91,18 @@ answer_of harts tag maker (item.Resize sectors) a one = tt
 own_dev : (harts : ℕ) (devs : ℕ → DeviceRun) (d : ℕ) (v : DeviceRun) → AreHartsOwn harts devs → IsHartsOwn harts v → AreHartsOwn harts (update devs d v)
 own_dev harts devs d v all one j = update_elim devs d v j (IsHartsOwn harts) (λ _. one) (λ _. all j)
 
+is_access : (how : Access) → IsAccess (item_of how)
+is_access (access.Load width off) = tt
+is_access (access.Store width off value) = tt
+
 own_issued : (harts hart : ℕ) (seen : Shown) (s : State) → hart < harts → AreHartsOwn harts s.devs → AreHartsOwn harts (issued hart seen s).devs
 own_issued harts hart shown.Nothing s exists all = all
 own_issued harts hart (shown.Byte byte) s exists all = all
 own_issued harts hart (shown.Finish finish) s exists all = all
-own_issued harts hart (shown.Access d access) s exists all =
-    let m : Made = record { item = item_of access; maker = Maker.Hart hart } in
+own_issued harts hart (shown.Access d how) s exists all =
+    let m : Made = record { item = item_of how; maker = Maker.Hart hart } in
     own_dev harts s.devs d (with_item (s.devs d) m) all (record {
-      made = items_more harts (s.devs d).made m (all d).made (record { hart = hart; maker_is = refl; exists = exists });
+      made = items_more harts (s.devs d).made m (all d).made (record { access = is_access how; hart = hart; maker_is = refl; exists = exists });
       due = (all d).due;
       replied = (all d).replied;
     })

@@ -138,6 +138,11 @@ abbrev pub HartStands : HartState → HartState → Option Pending → (ℕ → 
 HartStands kept now None devs = (now ≡ kept) × (kept.waits ≡ None)
 HartStands kept now (Some p) devs = IsSome kept.waits × AwaitsAt kept now p.tag (devs p.dev)
 
+-- a load that did not land is under way at its device: the device did not act on it, or its value is due or in the reply tube
+abbrev pub IsUnderWay : (ℕ → DeviceRun) → Option Pending → Type 0
+IsUnderWay devs None = Unit {0}
+IsUnderWay devs (Some p) = ((devs p.dev).acted ≤ p.tag) ⊎ ((value : ℕ) × HasValue p.tag value ((devs p.dev).replied ++ (devs p.dev).due))
+
 -- the tag of the load that a hart waits for, if it is of this device
 abbrev pub tag_at : ℕ → Option Pending → Option ℕ
 tag_at d None = None

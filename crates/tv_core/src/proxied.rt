@@ -1,14 +1,17 @@
 //! The proxied machine itself.
 
-ghost use Rattle.std.specs.Prelude.{◌≡◌, ◌≢◌, ℕ, ◌<◌, ◌≤◌, IfOk, None, length};
+ghost use Rattle.std.specs.Prelude.{◌≡◌, ◌≢◌, ℕ, ◌+◌, ◌<◌, ◌≤◌, IfOk, None, length};
+ghost use Rattle.tv_journal.specs.Entries.{record_count};
 ghost use Rattle.tv_journal.specs.Grammar.{cause_byte};
 ghost use Rattle.tv_journal.specs.declared.Entry.TheVariants as entry;
 ghost use Rattle.tv_machine.specs.Valid.{IsValid};
 ghost use Rattle.tv_spec.specs.Held.{held_from, held_of, own};
 ghost use Rattle.tv_spec.specs.Legal.{IsLegalRun};
+ghost use Rattle.tv_spec.specs.Room.{owed};
 ghost use Rattle.tv_spec.specs.declared.Answer.{Answer};
 ghost use Rattle.tv_core.specs.Calls.{DeliveredSo, EndedSo, HandedSo, IsFirstDue, RestsNow, TickedSo, TookSo, status_by, why_of};
-ghost use Rattle.tv_core.specs.Seen.{HasDevice, debug_of, dev_of, first_by, first_seen, history, setup_by, with_entry};
+ghost use Rattle.tv_core.specs.Seen.{HasDevice, HasHart, debug_of, dev_of, first_by, first_seen, history, setup_by, state_of, with_entry};
+ghost use Rattle.tv_core.specs.Stands.{IsUnderWay};
 
 mod services;
 mod turns;
@@ -227,12 +230,15 @@ impl Proxied {
         journal
     }
 
-    /// Every history is a legal run, each device of its state is the fold of what the entries of the device's worker brought, and no
-    /// more debug bytes were handed out than harts stored.
+    /// Every history is a legal run, each device of its state is the fold of what the entries of the device's worker brought, no
+    /// more debug bytes were handed out than harts stored, the journal has room for all records that are owed, and each load that
+    /// did not land is under way at its device.
     pub fn is_legal(&self)
         ensures legal { IsLegalRun self.now.machine self.now.image self.now.entries self.now.outer }
         ensures held { (d : ℕ) → held_of (dev_of self.now d) ≡ held_from (held_of ((first_by self.now).devs d)) (own (setup_by self.now) (first_by self.now) d (history self.now)) }
         ensures bytes { self.now.handed ≤ length (debug_of self.now) }
+        ensures room { record_count self.now.entries + owed (state_of self.now) ≤ self.now.machine.journal_entries }
+        ensures loads { (hart : ℕ) → HasHart self.now hart → IsUnderWay (state_of self.now).devs ((state_of self.now).pending hart) }
     {
         let _journal = &self.journal;
     }

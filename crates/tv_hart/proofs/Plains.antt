@@ -1,7 +1,6 @@
 -- An event that is not counted yet is the event, whatever the control and status registers are.
-use Rattle.std.proofs.Common.{◌≡◌, ℕ, ◌%◌, ◌==◌, Bool, true, Option, Some, None, refl, sym, ap, ◌∙◌, subst}
+use Rattle.std.proofs.Common.{◌≡◌, ℕ, ◌%◌, ◌==◌, true, Some, None, refl, ap, ◌∙◌}
 use Rattle.tv_base.specs.declared.Width.{Width}
-use Rattle.tv_base.specs.Width.{width_bytes}
 use Rattle.tv_hart.specs.declared.Did.TheVariants.{Retired}
 use Rattle.tv_hart.specs.declared.effect.Effect.{Effect}
 use Rattle.tv_hart.specs.declared.effect.Effect.TheVariants as effect
@@ -9,7 +8,7 @@ use Rattle.tv_hart.specs.declared.loads.Extension.{Extension}
 use Rattle.tv_hart.specs.declared.place.Loaded.{Loaded}
 use Rattle.tv_hart.specs.declared.place.Stored.{Stored}
 use Rattle.tv_hart.specs.Effect.{effect_of}
-use Rattle.tv_hart.specs.Hart.{Outcome, after_load, after_store, carried, fetched, if_aligned, interrupted, next_pc, row, stepped, with_csrs}
+use Rattle.tv_hart.specs.Hart.{after_load, after_store, carried, fetched, interrupted, next_pc, row, with_csrs}
 use Rattle.tv_hart.specs.HartState.{HartState}
 use Rattle.tv_hart.specs.Operation.{operation_of}
 use Rattle.tv_hart.specs.Place.{Meaning}
@@ -17,7 +16,7 @@ use Rattle.tv_hart.specs.Plain.{moved, IsPlainEvent, IsNumberLoaded, IsNumberSto
 use Rattle.tv_isa.specs.declared.Instr.{Instr}
 use Rattle.tv_isa.specs.Table.{reading}
 use Rattle.tv_trap.specs.CsrState.{CsrState}
-use Rattle.tv_trap.specs.Traps.{counted, pending_interrupt}
+use Rattle.tv_trap.specs.Traps.{counted}
 
 -- an effect comes to this, whatever the control and status registers are
 abbrev pub ComesTo : {P : Type 0} → Meaning P → HartState → P → ℕ → Effect → HartState → P → Type 0

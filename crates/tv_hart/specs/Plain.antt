@@ -1,11 +1,10 @@
 -- Events that compute, jump, or load and store in memory, without their count: in a row of them no interrupt becomes pending, and the counters
 -- can be raised once for all.
-use Rattle.std.specs.Prelude.{◌≡◌, ℕ, ◌%◌, Option, None, true}
+use Rattle.std.specs.Prelude.{◌≡◌, ℕ, ◌%◌, None, true}
 use Rattle.tv_base.specs.declared.Width.{Width}
 use Rattle.tv_base.specs.Width.{width_bytes}
 use Rattle.tv_hart.specs.declared.Did.TheVariants.{Retired}
 use Rattle.tv_hart.specs.declared.loads.Extension.{Extension}
-use Rattle.tv_hart.specs.declared.loads.Waiting.{Waiting}
 use Rattle.tv_hart.specs.declared.place.Loaded.TheVariants as loaded
 use Rattle.tv_hart.specs.declared.place.Stored.TheVariants as stored
 use Rattle.tv_hart.specs.Hart.{at_pc, next_pc, put, stepped, with_csrs}

@@ -546,6 +546,67 @@ impl Hart {
         ensures loaded { OnTrue result (IsNumberLoaded P.meaning self.old place.now width extension rd addr self.new) }
         ensures unchanged { OnFalse result (self.new ≡ self.old) }
     {
+        match (width, extension) {
+            (Width::B1, Extension::Sign) => self.load_as(
+                place,
+                Width::B1,
+                Extension::Sign,
+                rd,
+                addr,
+            ),
+            (Width::B1, Extension::Zero) => self.load_as(
+                place,
+                Width::B1,
+                Extension::Zero,
+                rd,
+                addr,
+            ),
+            (Width::B2, Extension::Sign) => self.load_as(
+                place,
+                Width::B2,
+                Extension::Sign,
+                rd,
+                addr,
+            ),
+            (Width::B2, Extension::Zero) => self.load_as(
+                place,
+                Width::B2,
+                Extension::Zero,
+                rd,
+                addr,
+            ),
+            (Width::B4, Extension::Sign) => self.load_as(
+                place,
+                Width::B4,
+                Extension::Sign,
+                rd,
+                addr,
+            ),
+            (Width::B4, Extension::Zero) => self.load_as(
+                place,
+                Width::B4,
+                Extension::Zero,
+                rd,
+                addr,
+            ),
+            (Width::B8, _) => self.load_as(place, Width::B8, extension, rd, addr),
+        }
+    }
+
+    /// What `load_number` does, compiled for a width and an extension of its own.
+    #[inline(always)]
+    fn load_as<P: Place>(
+        &mut self,
+        place: &P,
+        width: Width,
+        extension: Extension,
+        rd: u8,
+        addr: u64,
+    ) -> bool
+        requires { rd < 32 }
+        ensures loaded { OnTrue result (IsNumberLoaded P.meaning self.old place.now width extension rd addr self.new) }
+        ensures unchanged { OnFalse result (self.new ≡ self.old) }
+    {
         if !is_aligned(width, addr) {
             return false;
         }
@@ -558,6 +619,21 @@ impl Hart {
     /// Stores a number to memory, uncounted. `false`, and nothing changed, where it isn't aligned or doesn't lie in memory.
     #[inline(always)]
     fn store_number<P: Place>(&mut self, place: &mut P, width: Width, addr: u64, value: u64) -> bool
+        ensures stored { OnTrue result (IsNumberStored P.meaning self.old place.old width addr value self.new place.new) }
+        ensures calm { P.calm place.old place.new }
+        ensures unchanged { OnFalse result ((self.new ≡ self.old) × (place.new ≡ place.old)) }
+    {
+        match width {
+            Width::B1 => self.store_as(place, Width::B1, addr, value),
+            Width::B2 => self.store_as(place, Width::B2, addr, value),
+            Width::B4 => self.store_as(place, Width::B4, addr, value),
+            Width::B8 => self.store_as(place, Width::B8, addr, value),
+        }
+    }
+
+    /// What `store_number` does, compiled for a width of its own.
+    #[inline(always)]
+    fn store_as<P: Place>(&mut self, place: &mut P, width: Width, addr: u64, value: u64) -> bool
         ensures stored { OnTrue result (IsNumberStored P.meaning self.old place.old width addr value self.new place.new) }
         ensures calm { P.calm place.old place.new }
         ensures unchanged { OnFalse result ((self.new ≡ self.old) × (place.new ≡ place.old)) }
