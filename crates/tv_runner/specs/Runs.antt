@@ -1,5 +1,5 @@
--- A run of the engine, and what it came to.
-use Rattle.std.specs.Prelude.{◌≡◌, ℕ, suc, ◌≤◌, ◌++◌, List, length, Option, Some, None, IfNone, is_some, Bool, true, false, map}
+-- A run on one thread, and what it came to.
+use Rattle.std.specs.Prelude.{◌≡◌, ℕ, suc, ◌++◌, List, length, Option, Some, None, IfNone, is_some, Bool, true, false, map}
 use Rattle.tv_base.specs.declared.Why.{Why}
 use Rattle.tv_base.specs.declared.Why.TheVariants as why
 use Rattle.tv_journal.specs.declared.Entry.{Entry}
@@ -15,7 +15,7 @@ use Rattle.tv_spec.specs.Solo.{Solo, Going, rounds, answers_in, solo_rounds, sol
 use Rattle.tv_spec.specs.State.{first_state}
 use Rattle.tv_spec.specs.Step.{made}
 use Rattle.tv_runner.specs.declared.run.Ran.{Ran}
-use Rattle.tv_runner.specs.Parts.{Held, IsPart, Part}
+use Rattle.tv_runner.specs.Parts.{Part}
 
 -- bytes of the last of some rounds were lost: those of the rounds before went out, and a front of its own
 pub record IsLostIn (before bytes : List ℕ) (old new : ToldSink) : Type 0 where
@@ -32,17 +32,6 @@ IsPut false before bytes old new = IsAllOut bytes old new
 -- so many rounds of the schedule
 abbrev pub rounds_of : ℕ → Part
 rounds_of n setup bounds solo = rounds setup bounds n solo
-
--- so many rounds and one more were carried out, with these bytes before the last one
-pub record AreRounds (old new : Held) (stop : Option Stop) (lost : Bool) (told now : ToldSink) : Type 0 where
-  pub earlier : ℕ
-  pub middle : Held
-  pub bytes : List ℕ
-  pub before : IsPart (rounds_of earlier) old middle None
-  pub part : IsPart (rounds_of (suc earlier)) old (record new { bytes = bytes }) stop
-  pub few : suc earlier ≤ old.guest.steps
-  pub stopped : IfNone stop (lost ≡ true)
-  pub put : IsPut lost middle.bytes bytes told now
 
 -- the outer end: that of the stop, or that bytes were lost in a run that had not stopped
 abbrev pub outer_by : List Entry → Option Stop → Option (ℕ × Why)

@@ -1,51 +1,41 @@
-//! The engine of a run on one thread: the parts of a round, and rounds until the run comes to its end.
+//! The engine of a run on one thread: a core whose harts and devices have their turns, in rounds until the run comes to its end.
 
-ghost use Rattle.std.specs.Prelude.{false, ◌≡◌, ◌<◌, ◌≤◌, ◌+◌, ◌-◌, ◌*◌, ◌^◌, ◌++◌, [], None, IfOk, length};
-ghost use Rattle.std.specs.Result.{result_err};
+ghost use Rattle.std.specs.Prelude.{◌≡◌, ◌≤◌, ◌+◌, [], None, Some, IfOk, length, replicate};
 ghost use Rattle.tv_machine.specs.Valid.{IsValid};
-ghost use Rattle.tv_spec.specs.Shows.{byte_shown};
-ghost use Rattle.tv_spec.specs.Solo.{solo_tick, round};
-ghost use Rattle.tv_runner.specs.Parts.{held, IsAlone, IsNew, BurstComesTo, IsPart, IsWithin, IsRoundWithin, all_turns, ends_with_tick, turn_of};
-ghost use Rattle.tv_runner.specs.Runs.{AreRounds, outer_by};
+ghost use Rattle.tv_plan.specs.Probe.{new_probe};
+ghost use Rattle.tv_spec.specs.Legal.{IsLegalRun, with_outer};
+ghost use Rattle.tv_spec.specs.Shows.{cause_of_end};
+ghost use Rattle.tv_spec.specs.Solo.{round};
+ghost use Rattle.tv_core.specs.Calls.{why_of};
+ghost use Rattle.tv_core.specs.Seen.{debug_of, first_by, first_seen, setup_by};
+ghost use Rattle.tv_runner.specs.Cores.{EndsBy, IsPartOf, stop_of};
+ghost use Rattle.tv_runner.specs.Engines.{AreAtRest, AreDevicesDone, AreProbes, AreRounds, AreTurnsDone, IsReady, IsRoundDone, all_devices};
+ghost use Rattle.tv_runner.specs.Lines.{IsGoing};
+ghost use Rattle.tv_runner.specs.Parts.{all_turns};
+ghost use Rattle.tv_runner.specs.Runs.{cause_by, outer_by};
 
-use arrayvec::ArrayVec;
+use crate::line::Line;
 use std::alloc::Global;
-use tv_base::{HART_EVENTS, HartNo, Memory, Why};
-use tv_guest::Guest;
-use tv_journal::{Entry, Journal};
+use tv_base::{DevNo, HartNo, Memory, Why};
+use tv_core::Proxied;
+use tv_journal::Journal;
 use tv_machine::Machine;
 use tv_out::{Sink, put_all};
-use tv_spec::{Closed, Mode, Shown, Stop};
+use tv_small::Probe;
+use tv_spec::Stop;
 
-/// Events of a turn.
-const TURN: u32 = 64;
+/// Events of a turn at most, and by how much time goes on in a round.
+const TURN: u16 = 64;
 
-/// Nothing is closed to harts: there is no device, and the ring takes all bytes of a round.
-const OPEN: Closed = Closed {
-    debug: false,
-    loads: [false; 8],
-    stores: [false; 8],
-};
-
-/// The debug bytes of a round: at most 64 of each of 8 harts.
-type Ring = ArrayVec<u8, 512>;
-
-/// A machine without devices that runs on one thread, with what is kept of its run.
+/// A machine whose devices are probes, on one thread.
 #[derive(Drop)]
 pub struct Engine {
-    guest: Guest,
-    journal: Journal,
-    /// The bytes that the round showed at the debug port.
-    bytes: Ring,
-}
-
-/// Why rounds came to an end.
-#[derive(Clone, Copy)]
-pub struct Ended {
-    /// Why the run stopped; `None` where it had not, and bytes were lost.
-    pub stop: Option<Stop>,
-    /// Whether a put of the bytes failed. That was in the last round.
-    pub lost: bool,
+    line: Line,
+    /// The devices, by slot.
+    devices: Vec<Probe>,
+    harts: u8,
+    /// The seat of the debug port.
+    seat: u16,
 }
 
 impl Engine {
@@ -55,188 +45,151 @@ impl Engine {
     /// Out of memory.
     pub fn new(alloc: Global, machine: &Machine, image: &[u8]) -> Result<Engine, Memory>
         requires valid { IsValid machine.now }
+        requires probes { AreProbes machine.now.device }
         requires fits { length image.now ≤ machine.now.ram }
-        ensures { IfOk result (λ engine. IsNew machine.now image.now engine) }
+        ensures core { IfOk result (λ engine. engine.line.core ≡ first_seen machine.now image.now) }
+        ensures ready { IfOk result (λ engine. IsReady engine.line.core engine.devices.items engine.harts) }
     {
-        let guest = Guest::new(alloc, machine, image)?;
-        let journal = Journal::new(alloc, machine.journal_entries, machine.journal_bytes)?;
+        let Some(at) = DevNo::new(0) else {
+            unreachable!();
+        };
+        let core = Proxied::new(alloc, machine, image)?;
+        let devices = new_probes(alloc, machine)?;
+        let seat = u16::from(machine.harts) + machine.device.as_slice().len() as u16 + 3;
         Ok(Engine {
-            guest,
-            journal,
-            bytes: Ring::new(),
+            line: Line { core, at },
+            devices,
+            harts: machine.harts,
+            seat,
         })
     }
 
-    /// Rounds until the run stops or bytes are lost. After each round its bytes are put.
-    pub fn rounds<O: Sink>(&mut self, out: &mut O) -> Ended
-        requires alone { IsAlone self.old.guest }
-        requires harts { 0 < length self.old.guest.harts }
-        requires runs { self.old.guest.mode ≡ Mode.Running }
-        requires steps { self.old.guest.steps ≤ HART_EVENTS }
-        requires limit { self.old.guest.events < self.old.guest.steps }
-        requires new { self.old.guest.events ≡ 0 }
-        requires empty { self.old.journal.entries ≡ [] }
-        requires open { self.old.journal.outer ≡ None }
-        ensures rounds { AreRounds (record (held self.old) { bytes = [] }) (held self.new) result.stop result.lost (O.told out.old) (O.told out.new) }
+    /// Rounds until the run stops or bytes are lost. After each round its bytes are put. Whether bytes were lost, which is in the
+    /// last round.
+    pub fn rounds<O: Sink>(&mut self, out: &mut O) -> bool
+        requires ready { IsReady self.old.line.core self.old.devices.items self.old.harts }
+        requires silent { debug_of self.old.line.core ≡ [] }
+        ensures rounds { AreRounds self.old.line.core self.new.line.core result (O.told out.old) (O.told out.new) }
         ensures later { (O.told out.old).faults ≤ (O.told out.new).faults }
     {
+        let mut bytes = [0; 512];
         loop {
-            self.bytes.clear();
-            let stop = self.round().err();
-            let lost = put_all(out, &self.bytes).is_err();
-            if lost || stop.is_some() {
-                return Ended { stop, lost };
+            self.line.core.is_legal();
+            self.round();
+            let count = self.line.core.debug_take(&mut bytes);
+            let lost = put_all(out, &bytes[..count]).is_err();
+            if lost || self.line.core.why().is_some() {
+                return lost;
             }
         }
     }
 
-    /// A round: the turns of all harts, and a tick after them.
-    ///
-    /// # Errors
-    /// Why the run stopped in it.
-    fn round(&mut self) -> Result<(), Stop>
-        requires alone { IsAlone self.old.guest }
-        requires harts { 0 < length self.old.guest.harts }
-        requires runs { self.old.guest.mode ≡ Mode.Running }
-        requires few { length self.old.journal.entries + 513 < 2 ^ 32 }
-        requires ring { self.old.bytes.items ≡ [] }
-        requires open { self.old.journal.outer ≡ None }
-        ensures part { IsPart round (held self.old) (held self.new) (result_err result) }
-        ensures few { length self.old.guest.harts ≤ 8 }
-        ensures within { IsRoundWithin self.old.guest self.new.guest self.old.journal self.new.journal (result_err result) }
+    /// A round: the turns of all harts and of all devices, and a tick after them. It ends early where the run does.
+    fn round(&mut self)
+        requires ready { IsReady self.old.line.core self.old.devices.items self.old.harts }
+        ensures part { IsPartOf round self.old.line.core self.new.line.core }
+        ensures bytes { length (debug_of self.new.line.core) ≤ length (debug_of self.old.line.core) + 512 }
+        ensures next { why_of self.new.line.core ≡ None → IsRoundDone self.old.line.core self.new.line.core self.new.devices.items }
+        ensures harts { self.new.harts ≡ self.old.harts }
     {
-        match self.turns() {
-            Ok(()) => self.tick(),
-            stopped => stopped,
+        self.turns();
+        if self.line.core.why().is_some() {
+            return;
         }
+        self.serve();
+        if self.line.core.why().is_some() {
+            return;
+        }
+        let _ticked = self.line.core.tick(u32::from(TURN));
+        self.line.core.is_legal();
     }
 
-    /// The turns of all harts, in the order of their numbers.
-    ///
-    /// # Errors
-    /// Why the run stopped in one of them.
-    fn turns(&mut self) -> Result<(), Stop>
-        requires alone { IsAlone self.old.guest }
-        requires runs { self.old.guest.mode ≡ Mode.Running }
-        requires few { length self.old.journal.entries + 512 < 2 ^ 32 }
-        requires ring { self.old.bytes.items ≡ [] }
-        requires open { self.old.journal.outer ≡ None }
-        ensures part { IsPart all_turns (held self.old) (held self.new) (result_err result) }
-        ensures few { length self.old.guest.harts ≤ 8 }
-        ensures within { IsWithin (length self.old.guest.harts * 64) (held self.old) (held self.new) (result_err result) }
+    /// The turns of all harts, in the order of their numbers, until the run ends.
+    fn turns(&mut self)
+        requires ready { IsReady self.old.line.core self.old.devices.items self.old.harts }
+        ensures part { IsPartOf all_turns self.old.line.core self.new.line.core }
+        ensures bytes { length (debug_of self.new.line.core) ≤ length (debug_of self.old.line.core) + 512 }
+        ensures next { why_of self.new.line.core ≡ None → AreTurnsDone self.old.line.core self.new.line.core self.new.devices.items }
+        ensures harts { self.new.harts ≡ self.old.harts }
     {
-        for number in 0..self.guest.harts() {
+        self.line.core.is_legal();
+        for number in 0..self.harts {
             let Some(hart) = HartNo::new(number) else {
                 unreachable!();
             };
-            let turned = self.turn(hart);
-            if turned.is_err() {
-                return turned;
+            let _turn = self.line.core.hart_turn(hart, TURN);
+            self.line.core.is_legal();
+            if self.line.core.why().is_some() {
+                return;
             }
         }
-        Ok(())
     }
 
-    /// The turn of a hart: up to 64 events of it.
-    ///
-    /// # Errors
-    /// Why the run stopped in it.
-    fn turn(&mut self, hart: HartNo) -> Result<(), Stop>
-        requires alone { IsAlone self.old.guest }
-        requires exists { hart < length self.old.guest.harts }
-        requires runs { self.old.guest.mode ≡ Mode.Running }
-        requires few { length self.old.journal.entries + 64 < 2 ^ 32 }
-        requires ring { length self.old.bytes.items + 64 ≤ 512 }
-        requires open { self.old.journal.outer ≡ None }
-        ensures part { IsPart (turn_of hart 64) (held self.old) (held self.new) (result_err result) }
-        ensures within { IsWithin 64 (held self.old) (held self.new) (result_err result) }
+    /// The turns of all devices, in the order of their slots, until the run ends.
+    fn serve(&mut self)
+        requires valid { IsValid self.old.line.core.machine }
+        requires going { IsGoing self.old.line.core }
+        requires rest { AreAtRest self.old.line.core self.old.devices.items }
+        ensures part { IsPartOf all_devices self.old.line.core self.new.line.core }
+        ensures next { why_of self.new.line.core ≡ None → AreDevicesDone self.new.line.core self.new.devices.items }
+        ensures harts { self.new.harts ≡ self.old.harts }
     {
-        let mut left = TURN;
-        while left > 0 {
-            match self.burst(hart, left) {
-                Ok(made) => left -= made,
-                Err(stop) => return Err(stop),
+        for slot in 0..self.devices.len() {
+            let Some(at) = DevNo::new(slot as u8) else {
+                unreachable!();
+            };
+            self.line.at = at;
+            self.line.turn(&mut self.devices[slot]);
+            self.line.core.is_legal();
+            if self.line.core.why().is_some() {
+                return;
             }
         }
-        Ok(())
     }
 
-    /// A burst of events of a hart, of up to so many; how many were made where the run goes on, at least 1.
-    ///
-    /// # Errors
-    /// Why the run stopped in it.
-    #[inline(always)]
-    fn burst(&mut self, hart: HartNo, left: u32) -> Result<u32, Stop>
-        requires alone { IsAlone self.old.guest }
-        requires exists { hart < length self.old.guest.harts }
-        requires runs { self.old.guest.mode ≡ Mode.Running }
-        requires some { 0 < left }
-        requires few { length self.old.journal.entries + left < 2 ^ 32 }
-        requires ring { length self.old.bytes.items + left ≤ 512 }
-        requires open { self.old.journal.outer ≡ None }
-        ensures { BurstComesTo hart left (held self.old) (held self.new) result }
+    /// Why the run stopped; `None` exactly where it goes on.
+    pub fn stop(&self) -> Option<Stop>
+        ensures { result ≡ stop_of self.now.line.core }
     {
-        if !self.journal.has_room(&Entry::Hart(hart)) {
-            return Err(Stop::Full);
-        }
-        let (made, shown) = self.guest.burst(hart, left, &OPEN);
-        let _added = self.journal.push_events(hart, made);
-        show(&mut self.bytes, shown);
-        match self.guest.mode() {
-            Mode::Running => Ok(made),
-            Mode::Ending(why) => Err(Stop::Ended(why)),
+        match self.line.core.why() {
+            Some(Why::Full) => Some(Stop::Full),
+            Some(why) => Some(Stop::Ended(why)),
+            None => None,
         }
     }
 
-    /// The tick of a round.
-    ///
-    /// # Errors
-    /// `Full` where the journal has no room for it.
-    #[inline(always)]
-    fn tick(&mut self) -> Result<(), Stop>
-        requires alone { IsAlone self.old.guest }
-        requires runs { self.old.guest.mode ≡ Mode.Running }
-        requires unticked { ends_with_tick self.old.journal.entries ≡ false }
-        requires few { length self.old.journal.entries < 2 ^ 32 - 1 }
-        requires open { self.old.journal.outer ≡ None }
-        ensures part { IsPart solo_tick (held self.old) (held self.new) (result_err result) }
-        ensures entries { length self.new.journal.entries ≤ length self.old.journal.entries + 1 }
-        ensures events { self.new.guest.events ≡ self.old.guest.events }
-        ensures bytes { self.new.bytes ≡ self.old.bytes }
+    /// The journal. A run that goes on ends now, since bytes were lost.
+    pub fn into_journal(self) -> Journal
+        requires ends { EndsBy (stop_of self.line.core) self.line.core }
+        ensures entries { result.entries ≡ self.line.core.entries }
+        ensures outer { result.outer ≡ outer_by self.line.core.entries (stop_of self.line.core) }
+        ensures legal { IsLegalRun self.line.core.machine self.line.core.image result.entries result.outer }
+        ensures cause { cause_of_end (setup_by self.line.core) (first_by self.line.core) (with_outer result.entries result.outer) ≡ Some (cause_by (stop_of self.line.core)) }
     {
-        let entry = Entry::Tick(TURN);
-        if !self.journal.has_room(&entry) {
-            return Err(Stop::Full);
-        }
-        self.guest.tick(TURN);
-        let _added = self.journal.push(&entry);
-        Ok(())
-    }
-
-    /// The journal, with the end that no entry made, if the run has one.
-    pub fn into_journal(self, stop: Option<Stop>) -> Journal
-        requires { self.journal.outer ≡ None }
-        ensures { result ≡ record self.journal { outer = outer_by self.journal.entries stop } }
-    {
-        let Engine { mut journal, .. } = self;
-        match stop {
-            None => journal.end(Why::DebugLost),
-            Some(Stop::Full) => journal.end(Why::Full),
-            Some(Stop::Ended(_)) => {}
-        }
-        journal
+        let Engine { line, seat, .. } = self;
+        let Line { mut core, .. } = line;
+        core.end(Why::DebugLost, seat);
+        core.is_legal();
+        core.into_journal()
     }
 }
 
-/// Keeps the byte that an event showed, if it showed one.
-#[inline(always)]
-fn show(bytes: &mut Ring, shown: Shown)
-    requires { length bytes.old.items < 512 }
-    ensures shown { bytes.new.items ≡ bytes.old.items ++ byte_shown shown }
-    ensures within { length bytes.new.items ≤ length bytes.old.items + 1 }
+/// The probes of a machine, by slot, as a run begins.
+///
+/// # Errors
+/// Out of memory.
+pub fn new_probes(alloc: Global, machine: &Machine) -> Result<Vec<Probe>, Memory>
+    ensures { IfOk result (λ probes. probes.items ≡ replicate (length machine.now.device) new_probe) }
 {
-    match shown {
-        Shown::Byte(byte) => bytes.push(byte),
-        Shown::Nothing | Shown::Finish(_) | Shown::Access(_, _) => {}
+    let mut probes = Vec::new(alloc);
+    for _device in machine.device.as_slice() {
+        match Probe::new(alloc) {
+            Ok(probe) => match probes.push(probe) {
+                Ok(()) => {}
+                Err(_) => return Err(Memory),
+            },
+            Err(Memory) => return Err(Memory),
+        }
     }
+    Ok(probes)
 }

@@ -1,7 +1,8 @@
 //! A run on one thread, from its first round to its end.
 
-ghost use Rattle.std.specs.Prelude.{◌≡◌, ◌≤◌, [], IfOk, OnErr, length};
+ghost use Rattle.std.specs.Prelude.{◌≡◌, ◌≤◌, IfOk, OnErr, length};
 ghost use Rattle.tv_machine.specs.Valid.{IsValid};
+ghost use Rattle.tv_runner.specs.Engines.{AreProbes};
 ghost use Rattle.tv_runner.specs.Runs.{IsRun};
 
 use crate::engine::Engine;
@@ -23,8 +24,9 @@ pub struct Ran {
     pub lost: bool,
 }
 
-/// Runs a machine without devices, with an image of up to `ram` bytes, on one thread, in rounds: up to 64 events of each hart in
-/// the order of their numbers, then a tick of 64. After each round the bytes that it showed at the debug port are put.
+/// Runs a machine whose devices are probes, with an image of up to `ram` bytes, on one thread, in rounds: up to 64 events of each
+/// hart in the order of their numbers, then all that each device can do in the order of their slots, then a tick of 64. After each
+/// round the bytes that it showed at the debug port are put.
 ///
 /// The run stops where an event ends it, which comes after at most `steps` events, or where an entry finds no room in the
 /// journal. A round whose bytes could not be put is its last.
@@ -38,17 +40,18 @@ pub fn solo<O: Sink>(
     out: &mut O,
 ) -> Result<Ran, Memory>
     requires valid { IsValid machine.now }
-    requires alone { machine.now.device ≡ [] }
+    requires probes { AreProbes machine.now.device }
     requires fits { length image.now ≤ machine.now.ram }
     ensures ran { IfOk result (λ ran. IsRun machine.now image.now ran (O.told out.old) (O.told out.new)) }
     ensures unchanged { OnErr result (O.told out.new ≡ O.told out.old) }
     ensures later { (O.told out.old).faults ≤ (O.told out.new).faults }
 {
     let mut engine = Engine::new(alloc, machine, image)?;
-    let ended = engine.rounds(out);
+    let lost = engine.rounds(out);
+    let stop = engine.stop();
     Ok(Ran {
-        journal: engine.into_journal(ended.stop),
-        stop: ended.stop,
-        lost: ended.lost,
+        journal: engine.into_journal(),
+        stop,
+        lost,
     })
 }
