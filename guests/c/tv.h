@@ -54,6 +54,44 @@ static inline unsigned long tv_mtime(void)
     return *(volatile unsigned long *)0x0200bff8UL;
 }
 
+/* The registers of a probe, each to be accessed with the width that it has here. */
+struct tv_probe {
+    volatile unsigned long addr;  /* an address of memory */
+    volatile unsigned int len;    /* how many bytes are read or written, 1 to 8 */
+    const unsigned int reserved;
+    volatile unsigned long data;  /* what was read, or is to be written, least byte first */
+    volatile unsigned int go;     /* a store starts an action */
+    volatile unsigned int result; /* of the last action: 0 for none yet, 1 done, 2 refused */
+    volatile unsigned long count; /* how many stores the probe had */
+};
+
+/* The actions of a probe. */
+enum { TV_PROBE_READ = 1, TV_PROBE_WRITE, TV_PROBE_RAISE, TV_PROBE_RELEASE, TV_PROBE_REGAIN };
+
+/* The probe in a slot of the machine. */
+static inline struct tv_probe *tv_probe(unsigned long slot)
+{
+    return (struct tv_probe *)(0x10001000UL + 0x1000 * slot);
+}
+
+/* The priority of an interrupt source, 0 to 7. The source of the device in slot d is d + 1. */
+static inline volatile unsigned int *tv_priority(unsigned long source)
+{
+    return (volatile unsigned int *)(0x0c000000UL + 4 * source);
+}
+
+/* The sources that may interrupt a hart, a bit each. */
+static inline volatile unsigned int *tv_enable(unsigned long hart)
+{
+    return (volatile unsigned int *)(0x0c002000UL + 0x80 * hart);
+}
+
+/* A load claims the source of greatest priority that is pending, 0 for none; a store of its number completes it. */
+static inline volatile unsigned int *tv_claim(unsigned long hart)
+{
+    return (volatile unsigned int *)(0x0c200004UL + 0x1000 * hart);
+}
+
 /* Reads a control and status register by its name, as READ_CSR(mcause). */
 #define READ_CSR(name)                                    \
     ({                                                    \

@@ -118,29 +118,71 @@ fn guests_print_what_their_texts_say(rt: HostRuntime) -> Result<(), Fail> {
     Ok(())
 }
 
-#[test]
-fn the_example_machine_is_checked_run_and_replayed(rt: HostRuntime) -> Result<(), Fail> {
-    let image = path(&rt, "harts", "image")?;
-    let machine = path(&rt, "harts", "machine")?;
-    let journal = path(&rt, "harts", "journal")?;
-    fs::write(&rt, &image, images::TWO_HARTS)?;
-    let named = images::TWO_HARTS_TOML.split_once("guests/two_harts/two_harts.bin");
-    let Some((before, after)) = named else {
+/// What the commands answered for a machine.
+#[derive(Drop)]
+struct Answers {
+    checked: Answer,
+    ran: Answer,
+    again: Answer,
+    replayed: Answer,
+}
+
+/// A machine of `guests` with its image is checked, run twice and replayed.
+fn answers_of(rt: &HostRuntime, name: &str, file: &str, image: &[u8]) -> Result<Answers, Fail> {
+    let image_path = path(rt, name, "image")?;
+    let machine = path(rt, name, "machine")?;
+    let journal = path(rt, name, "journal")?;
+    fs::write(rt, &image_path, image)?;
+    let named = format!(in rt.alloc(); "guests/{name}/{name}.bin")?;
+    let Some((before, after)) = file.split_once(named.as_str()) else {
         return Err(Fail::from("the machine file doesn't name its image"));
     };
-    let text = format!(in rt.alloc(); "{before}{}{after}", image.as_str())?;
-    fs::write(&rt, &machine, text.as_bytes())?;
-    let checked = serve(&rt, "harts", &["check", &machine])?;
-    let ran = serve(&rt, "harts", &["solo", &machine, "--journal", &journal])?;
-    let again = serve(&rt, "harts", &["solo", &machine])?;
-    let replayed = serve(&rt, "harts", &["replay", &machine, &journal])?;
-    for path in [&image, &machine, &journal] {
-        fs::remove_file(&rt, path)?;
+    let here = format!(in rt.alloc(); "{before}{}{after}", image_path.as_str())?;
+    fs::write(rt, &machine, here.as_bytes())?;
+    let checked = serve(rt, name, &["check", &machine])?;
+    let ran = serve(rt, name, &["solo", &machine, "--journal", &journal])?;
+    let again = serve(rt, name, &["solo", &machine])?;
+    let replayed = serve(rt, name, &["replay", &machine, &journal])?;
+    for path in [&image_path, &machine, &journal] {
+        fs::remove_file(rt, path)?;
     }
-    expect(&rt, &checked, 0, "ok\n", "");
-    expect(&rt, &ran, 0, images::TWO_HARTS_TEXT, "");
-    expect(&rt, &again, 0, images::TWO_HARTS_TEXT, "");
-    assert_eq!(rt; replayed.status, 0);
-    assert!(rt; replayed.out.starts_with(b"legal: ") && replayed.out.ends_with(b", status 0\n"));
+    Ok(Answers {
+        checked,
+        ran,
+        again,
+        replayed,
+    })
+}
+
+#[test]
+fn machines_of_guests_are_checked_run_and_replayed(rt: HostRuntime) -> Result<(), Fail> {
+    for (name, file, image, text) in [
+        (
+            "two_harts",
+            images::TWO_HARTS_TOML,
+            images::TWO_HARTS,
+            images::TWO_HARTS_TEXT,
+        ),
+        (
+            "probe_polled",
+            images::PROBE_POLLED_TOML,
+            images::PROBE_POLLED,
+            images::PROBE_POLLED_TEXT,
+        ),
+        (
+            "probe_interrupt",
+            images::PROBE_INTERRUPT_TOML,
+            images::PROBE_INTERRUPT,
+            images::PROBE_INTERRUPT_TEXT,
+        ),
+    ] {
+        let answers = answers_of(&rt, name, file, image)?;
+        expect(&rt, &answers.checked, 0, "ok\n", "");
+        expect(&rt, &answers.ran, 0, text, "");
+        expect(&rt, &answers.again, 0, text, "");
+        let line = &answers.replayed.out;
+        assert_eq!(rt; answers.replayed.status, 0);
+        assert!(rt; line.starts_with(b"legal: ") && line.ends_with(b", status 0\n"));
+    }
     Ok(())
 }

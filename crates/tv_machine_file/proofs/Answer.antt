@@ -6,7 +6,8 @@ use Rattle.tv_machine_file.specs.declared.fault.FileFault.TheVariants.{NotToml, 
 use Rattle.tv_machine.specs.declared.machine.Machine.{Machine}
 use Rattle.tv_machine_file.specs.Keys.{Tells}
 use Rattle.tv_machine.specs.Valid.{IsValid}
-use Rattle.tv_machine_file.proofs.Validity.{valid_machine}
+use Rattle.tv_machine_file.proofs.Validity.{machine_probes, valid_machine}
+use Rattle.tv_machine_file.specs.DeviceFiles.{AreProbes}
 use Rattle.tv_machine_file.specs.MachineFiles.{IsAnswer, IsToml, file_faults, machine_of}
 
 pub answer : (bytes : List ℕ) (t : Members) (r : Result Machine FileFault) → IsToml bytes t
@@ -24,3 +25,7 @@ answer bytes t (Err (Overlap key)) toml ok value fault = record { table = t; tom
 pub valid_answer : (t : Members) (r : Result Machine FileFault) → IfOk r (λ _. file_faults t ≡ []) → IfOk r (λ m. m ≡ machine_of t) → IfOk r IsValid
 valid_answer t (Ok machine) ok value = rw value (valid_machine t ok)
 valid_answer t (Err fault) ok value = tt
+
+pub probes_answer : (t : Members) (r : Result Machine FileFault) → IfOk r (λ _. file_faults t ≡ []) → IfOk r (λ m. m ≡ machine_of t) → IfOk r (λ m. AreProbes m.device)
+probes_answer t (Ok machine) ok value = rw value (machine_probes t ok)
+probes_answer t (Err fault) ok value = tt

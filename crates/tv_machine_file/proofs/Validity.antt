@@ -10,21 +10,14 @@ use Rattle.std.specs.List.{All, AllPairs}
 use Rattle.std.specs.Option.{option_to_list}
 use Rattle.toml.specs.Data.{Data, as_str, as_integer, as_array, Items, no_items, item, Members, get_member}
 use Rattle.tv_base.specs.declared.limits.TheConstants.{LINES, FILE_NAME_BYTES, SOCKET_NAME_BYTES}
-use Rattle.tv_machine_file.specs.declared.fault.FileFault.{FileFault}
 use Rattle.tv_machine_file.specs.declared.keys.Bounds.{Bounds}
 use Rattle.tv_machine_file.specs.declared.keys.TableKind.TheVariants as table_kind
-use Rattle.tv_machine_file.specs.Keys.{member_path, is_in, is_name, is_among, same_text, range_fault, integer_faults, number_faults, number_of, number_or, text_faults, name_faults, name_or_none, text_of, unknown_faults}
-use Rattle.tv_machine_file.specs.MachineFiles.{file_faults, machine_of, item_count, socket_fault, socket_faults, sockets_faults, sockets_in, control_faults, control_of, twice_fault, texts_in, ram_bounds, harts_bounds, steps_bounds, journal_entries_bounds, journal_bytes_bounds, tube_bounds}
+use Rattle.tv_machine_file.specs.Keys.{member_path, is_in, is_name, is_among, item_count, same_text, range_fault, integer_faults, number_faults, number_of, number_or, text_faults, name_faults, name_or_none, text_of, unknown_faults}
+use Rattle.tv_machine_file.specs.MachineFiles.{file_faults, machine_of, socket_fault, socket_faults, sockets_faults, sockets_in, control_faults, control_of, twice_fault, texts_in, ram_bounds, harts_bounds, steps_bounds, journal_entries_bounds, journal_bytes_bounds, tube_bounds}
+use Rattle.tv_machine_file.specs.DeviceFiles.{AreProbes}
+use Rattle.tv_machine_file.proofs.Faultless.{in_range, none_in}
+use Rattle.tv_machine_file.proofs.ValidDevices.{AreSlots, are_probes, distinct, no_entropy, slots}
 use Rattle.tv_machine.specs.Valid.{IsValid, IsWithin, IsSocketName, AreDifferent}
-
--- no fault in two lists of faults is none in each
-pub none_in : (a b : List FileFault) → a ++ b ≡ [] → (a ≡ []) × (b ≡ [])
-none_in [] b none = (refl, none)
-none_in (x ∷ a) b none = absurd (cc)
-
-in_range : (ok : Bool) (path : List ℕ) → range_fault ok path ≡ [] → ok ≡ true
-in_range true path none = refl
-in_range false path none = absurd (cc)
 
 number_in : (b : Bounds) (z : ℤ) → is_in b z ≡ true → is_in b (pos (number_of (Some z) b.usual)) ≡ true
 number_in b (pos n) is = is
@@ -135,6 +128,22 @@ pub lines : (path : List ℕ) (o : Option Data) → control_faults path o ≡ []
 lines path None none = record { few = omega arith; are = no_sockets }
 lines path (Some d) none = lines_in path (as_array d) none
 
+-- the devices of a machine file without a fault
+read_slots : (t : Members) → file_faults t ≡ [] → AreSlots (machine_of t).ram (machine_of t).device
+read_slots t none =
+    let (k, after_keys) = none_in (unknown_faults table_kind.File [] t) _ none in
+    let (i, after_image) = none_in (name_faults FILE_NAME_BYTES (codes "image") (get_member (codes "image") t)) _ after_keys in
+    let (r, after_ram) = none_in (number_faults ram_bounds (codes "ram") (get_member (codes "ram") t)) _ after_image in
+    let (h, after_harts) = none_in (number_faults harts_bounds (codes "harts") (get_member (codes "harts") t)) _ after_ram in
+    let (s, after_steps) = none_in (number_faults steps_bounds (codes "steps") (get_member (codes "steps") t)) _ after_harts in
+    let (e, after_entries) = none_in (number_faults journal_entries_bounds (codes "journal_entries") (get_member (codes "journal_entries") t)) _ after_steps in
+    let (b, after_bytes) = none_in (number_faults journal_bytes_bounds (codes "journal_bytes") (get_member (codes "journal_bytes") t)) _ after_entries in
+    let (u, after_tube) = none_in (number_faults tube_bounds (codes "tube") (get_member (codes "tube") t)) _ after_bytes in
+    let (c, device) = none_in (control_faults (codes "control") (get_member (codes "control") t)) _ after_tube in
+    let ram = within ram_bounds (machine_of t).ram (bounded ram_bounds (codes "ram") (get_member (codes "ram") t) refl r) in
+    let some : 1 ≤ (machine_of t).ram = omega (arith, ram.0.0) in
+    slots (codes "device") (machine_of t).ram (get_member (codes "device") t) some device
+
 -- a machine file without a fault says a valid machine
 pub valid_machine : (t : Members) → file_faults t ≡ [] → IsValid (machine_of t)
 valid_machine t none =
@@ -147,6 +156,7 @@ valid_machine t none =
     let (b, after_bytes) = none_in (number_faults journal_bytes_bounds (codes "journal_bytes") (get_member (codes "journal_bytes") t)) _ after_entries in
     let (u, after_tube) = none_in (number_faults tube_bounds (codes "tube") (get_member (codes "tube") t)) _ after_bytes in
     let (c, after_control) = none_in (control_faults (codes "control") (get_member (codes "control") t)) _ after_tube in
+    let device = read_slots t none in
     let control : AreLines (control_of (get_member (codes "control") t)) = lines (codes "control") (get_member (codes "control") t) c in
     let ram = within ram_bounds _ (bounded ram_bounds (codes "ram") (get_member (codes "ram") t) refl r) in
     record {
@@ -161,8 +171,12 @@ valid_machine t none =
       lines = control.few;
       sockets = control.are.sockets;
       distinct_sockets = control.are.distinct;
-      slots = omega arith;
-      devices = λ k d below. absurd (omega arith);
-      distinct_files = λ i j d before below. absurd (omega arith);
-      one_entropy = λ i j d before below. absurd (omega arith);
+      slots = device.few;
+      devices = device.are.valid;
+      distinct_files = distinct (machine_of t).device device.files;
+      one_entropy = no_entropy (machine_of t).device device.are.probes;
     }
+
+-- and its devices are probes
+pub machine_probes : (t : Members) → file_faults t ≡ [] → AreProbes (machine_of t).device
+machine_probes t none = are_probes (machine_of t).device (read_slots t none).are.probes

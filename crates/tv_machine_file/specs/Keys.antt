@@ -1,5 +1,5 @@
 -- Keys of a machine file: which there are, their paths, and the faults of a key's value.
-use Rattle.std.specs.Prelude.{◌≡◌, ◌≢◌, ℕ, ◌%◌, ◌&&◌, ◌||◌, ◌++◌, ℤ, pos, negsuc, Bool, true, false, if◌then◌else◌, nat_eq, nat_le, List, [], ◌∷◌, length, codes, decimal, Option, Some, None}
+use Rattle.std.specs.Prelude.{◌≡◌, ◌≢◌, ℕ, ◌+◌, ◌%◌, ◌&&◌, ◌||◌, ◌++◌, ℤ, pos, negsuc, Bool, true, false, if◌then◌else◌, nat_eq, nat_le, List, [], ◌∷◌, length, codes, decimal, Option, Some, None}
 use Rattle.std.specs.Prelude.{String}
 use Rattle.std.specs.BTreeMap.{BTreeMap}
 use Rattle.std.specs.declared.alloc.Global.{Global}
@@ -7,9 +7,9 @@ use Rattle.std.specs.Cmp.Lexicographic.{pointwise, slice_cmp}
 use Rattle.std.specs.Ordering.{nat_cmp, match_ordering}
 use Rattle.toml.specs.declared.value.Value.{Value}
 use Rattle.toml.specs.View.{table_view}
-use Rattle.toml.specs.Data.{Data, as_str, as_integer, Members, no_members, member, get_member}
+use Rattle.toml.specs.Data.{Data, as_str, as_integer, Items, no_items, item, Members, no_members, member, get_member}
 use Rattle.tv_machine_file.specs.declared.fault.FileFault.{FileFault}
-use Rattle.tv_machine_file.specs.declared.fault.FileFault.TheVariants.{NotToml, Unknown, Missing, Kind, Range, Twice, Memory}
+use Rattle.tv_machine_file.specs.declared.fault.FileFault.TheVariants.{NotToml, Unknown, Missing, Kind, Range, Twice, Overlap, Memory}
 use Rattle.tv_machine_file.specs.declared.keys.Bounds.{Bounds}
 use Rattle.tv_machine_file.specs.declared.keys.Rule.{Rule}
 use Rattle.tv_machine_file.specs.declared.keys.Rule.TheVariants as rule
@@ -32,6 +32,7 @@ fault_of rule.Missing path = Missing path
 fault_of rule.Kind path = Kind path
 fault_of rule.Range path = Range path
 fault_of rule.Twice path = Twice path
+fault_of rule.Overlap path = Overlap path
 
 -- the path of a key in the table at a path; the file itself has the empty path
 abbrev pub key_path : List ℕ → List ℕ → List ℕ
@@ -42,13 +43,15 @@ key_path (byte ∷ path) key = (byte ∷ path) ++ (codes "." ++ key)
 abbrev pub member_path : List ℕ → ℕ → List ℕ
 member_path path n = key_path path (decimal n)
 
--- the keys of the file itself, and of a device whose kind is none that is built
+-- the keys of the file itself, of a device whose kind is none that is built, of a probe, and of a memory range
 abbrev pub known_keys : TableKind → List (List ℕ)
 known_keys table_kind.File =
     codes "image" ∷ codes "ram" ∷ codes "harts" ∷ codes "steps" ∷ codes "journal_entries" ∷ codes "journal_bytes" ∷ codes "tube" ∷ codes "control"
     ∷ codes "device" ∷ []
 known_keys table_kind.Device =
     codes "kind" ∷ codes "mem" ∷ codes "irq" ∷ codes "disk" ∷ codes "readonly" ∷ codes "output" ∷ codes "input" ∷ []
+known_keys table_kind.Probe = codes "kind" ∷ codes "mem" ∷ codes "irq" ∷ []
+known_keys table_kind.Range = codes "base" ∷ codes "len" ∷ codes "rights" ∷ []
 
 abbrev pub same_text : List ℕ → List ℕ → Bool
 same_text = pointwise nat_eq
@@ -90,6 +93,11 @@ unknown_faults kind path t = unknown_fault path (least (unknown_keys kind (keys_
 abbrev pub range_fault : Bool → List ℕ → List FileFault
 range_fault true path = []
 range_fault false path = Range path ∷ []
+
+-- how many members an array has
+abbrev pub item_count : Items → ℕ
+item_count no_items = 0
+item_count (item d ds) = 1 + item_count ds
 
 -- what a table has at a key
 abbrev pub held : BTreeMap (String Global) Value → List ℕ → Option Data

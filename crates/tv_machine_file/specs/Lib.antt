@@ -1,2 +1,3 @@
+pub mod DeviceFiles
 pub mod Keys
 pub mod MachineFiles

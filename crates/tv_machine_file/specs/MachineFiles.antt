@@ -1,14 +1,15 @@
 -- Machine files: the faults of one in the order in which they count, and the machine that one without a fault says.
 use Rattle.std.specs.Prelude.{◌≡◌, ℕ, ◌+◌, ◌++◌, Bool, true, false, nat_le, List, [], ◌∷◌, codes, Option, Some, None, Result, Ok, Err, option_to_list, IsUtf8}
-use Rattle.toml.specs.Data.{Data, as_str, as_array, as_table, Items, no_items, item, Members, get_member}
+use Rattle.toml.specs.Data.{Data, as_str, as_array, Items, no_items, item, Members, get_member}
 use Rattle.toml.specs.Parse.{parse_document}
-use Rattle.tv_base.specs.declared.limits.TheConstants.{HARTS, DEVICES, LINES, RAM_BYTES, RAM_BYTES_LEAST, RAM_BYTES_DEFAULT, PAGE_BYTES, TUBE_MESSAGES, TUBE_MESSAGES_DEFAULT, HART_EVENTS, HART_EVENTS_DEFAULT, JOURNAL_RECORDS, JOURNAL_RECORDS_DEFAULT, JOURNAL_PAYLOAD_BYTES, JOURNAL_PAYLOAD_BYTES_DEFAULT, FILE_NAME_BYTES, SOCKET_NAME_BYTES}
+use Rattle.tv_base.specs.declared.limits.TheConstants.{HARTS, LINES, RAM_BYTES, RAM_BYTES_LEAST, RAM_BYTES_DEFAULT, PAGE_BYTES, TUBE_MESSAGES, TUBE_MESSAGES_DEFAULT, HART_EVENTS, HART_EVENTS_DEFAULT, JOURNAL_RECORDS, JOURNAL_RECORDS_DEFAULT, JOURNAL_PAYLOAD_BYTES, JOURNAL_PAYLOAD_BYTES_DEFAULT, FILE_NAME_BYTES, SOCKET_NAME_BYTES}
 use Rattle.tv_machine_file.specs.declared.fault.FileFault.{FileFault}
-use Rattle.tv_machine_file.specs.declared.fault.FileFault.TheVariants.{NotToml, Missing, Kind, Range, Twice, Memory}
+use Rattle.tv_machine_file.specs.declared.fault.FileFault.TheVariants.{NotToml, Kind, Twice, Memory}
 use Rattle.tv_machine_file.specs.declared.keys.Bounds.{Bounds}
 use Rattle.tv_machine_file.specs.declared.keys.TableKind.TheVariants as table_kind
 use Rattle.tv_machine.specs.declared.machine.Machine.{Machine}
-use Rattle.tv_machine_file.specs.Keys.{key_path, member_path, is_among, unknown_faults, range_fault, number_faults, name_faults, is_name, number_or, name_or_none, first}
+use Rattle.tv_machine_file.specs.Keys.{member_path, is_among, item_count, unknown_faults, range_fault, number_faults, name_faults, is_name, number_or, name_or_none, first}
+use Rattle.tv_machine_file.specs.DeviceFiles.{devices_faults, devices_of}
 
 -- the numbers of a machine: the least, the most, what each is a multiple of, and the one that is usual
 abbrev pub ram_bounds : Bounds
@@ -28,11 +29,6 @@ journal_bytes_bounds = record { least = 0; most = JOURNAL_PAYLOAD_BYTES; step = 
 
 abbrev pub tube_bounds : Bounds
 tube_bounds = record { least = 1; most = TUBE_MESSAGES; step = 1; usual = TUBE_MESSAGES_DEFAULT }
-
--- how many members an array has
-abbrev pub item_count : Items → ℕ
-item_count no_items = 0
-item_count (item d ds) = 1 + item_count ds
 
 -- the fault of a name that stands among earlier ones
 abbrev pub twice_fault : Bool → List ℕ → List FileFault
@@ -73,34 +69,6 @@ abbrev pub control_of : Option Data → List (List ℕ)
 control_of None = []
 control_of (Some d) = sockets_in (as_array d)
 
--- the fault of a device's kind; no kind is built yet, so each text is out of range
-abbrev pub kind_text_faults : List ℕ → Option (List ℕ) → List FileFault
-kind_text_faults path None = Kind path ∷ []
-kind_text_faults path (Some kind) = Range path ∷ []
-
-abbrev pub kind_faults : List ℕ → Option Data → List FileFault
-kind_faults path None = Missing path ∷ []
-kind_faults path (Some d) = kind_text_faults path (as_str d)
-
--- the faults of a device's table
-abbrev pub device_faults : List ℕ → Option Members → List FileFault
-device_faults path None = Kind path ∷ []
-device_faults path (Some t) = unknown_faults table_kind.Device path t ++ kind_faults (key_path path (codes "kind")) (get_member (codes "kind") t)
-
--- the faults of the devices from the n-th on
-abbrev pub slot_faults : List ℕ → ℕ → Items → List FileFault
-slot_faults path n no_items = []
-slot_faults path n (item d ds) = device_faults (member_path path n) (as_table d) ++ slot_faults path (n + 1) ds
-
-abbrev pub slots_faults : List ℕ → Option Items → List FileFault
-slots_faults path None = Kind path ∷ []
-slots_faults path (Some ds) = range_fault (nat_le (item_count ds) DEVICES) path ++ slot_faults path 0 ds
-
--- the faults of the array of devices
-abbrev pub devices_faults : List ℕ → Option Data → List FileFault
-devices_faults path None = []
-devices_faults path (Some d) = slots_faults path (as_array d)
-
 -- the faults of a machine file in their order: the least key that it doesn't know, and then those of its keys
 abbrev pub file_faults : Members → List FileFault
 file_faults t =
@@ -112,9 +80,9 @@ file_faults t =
     ++ (number_faults journal_bytes_bounds (codes "journal_bytes") (get_member (codes "journal_bytes") t)
     ++ (number_faults tube_bounds (codes "tube") (get_member (codes "tube") t)
     ++ (control_faults (codes "control") (get_member (codes "control") t)
-    ++ devices_faults (codes "device") (get_member (codes "device") t)))))))))
+    ++ devices_faults (codes "device") (number_or ram_bounds (get_member (codes "ram") t)) (get_member (codes "device") t)))))))))
 
--- the machine that a machine file without a fault says; no kind is built yet, so it has no device
+-- the machine that a machine file without a fault says
 abbrev pub machine_of : Members → Machine
 machine_of t =
     record {
@@ -126,7 +94,7 @@ machine_of t =
       journal_bytes = number_or journal_bytes_bounds (get_member (codes "journal_bytes") t);
       tube = number_or tube_bounds (get_member (codes "tube") t);
       control = control_of (get_member (codes "control") t);
-      device = [];
+      device = devices_of (number_or ram_bounds (get_member (codes "ram") t)) (get_member (codes "device") t);
     }
 
 -- the bytes are a text that TOML reads as this table

@@ -28,8 +28,12 @@ pub struct Bounds {
 pub enum TableKind {
     /// The file itself.
     File,
-    /// A device.
+    /// A device whose kind is missing or none that is built.
     Device,
+    /// A probe.
+    Probe,
+    /// A memory range of a device.
+    Range,
 }
 
 /// A rule of a machine file.
@@ -45,6 +49,8 @@ pub enum Rule {
     Range,
     /// A value that isn't given again.
     Twice,
+    /// Ranges of a device that share no byte.
+    Overlap,
 }
 
 /// The path of a key in the table at a path; the file itself has the empty one.
@@ -70,6 +76,7 @@ pub fn broken(alloc: Global, rule: Rule, path: &str, key: &str) -> FileFault
             Rule::Kind => FileFault::Kind(text),
             Rule::Range => FileFault::Range(text),
             Rule::Twice => FileFault::Twice(text),
+            Rule::Overlap => FileFault::Overlap(text),
         },
         Err(_) => FileFault::Memory,
     }
@@ -95,8 +102,14 @@ const FILE_KEYS: [&str; 9] = [
     "device",
 ];
 
-/// The keys of a device.
+/// The keys of a device of any kind.
 const DEVICE_KEYS: [&str; 7] = ["kind", "mem", "irq", "disk", "readonly", "output", "input"];
+
+/// The keys of a probe.
+const PROBE_KEYS: [&str; 3] = ["kind", "mem", "irq"];
+
+/// The keys of a memory range.
+const RANGE_KEYS: [&str; 3] = ["base", "len", "rights"];
 
 /// Whether a table knows this key.
 fn is_known(kind: TableKind, key: &str) -> bool
@@ -109,6 +122,14 @@ fn is_known(kind: TableKind, key: &str) -> bool
         }
         TableKind::Device => {
             let keys: [&str; 7] = DEVICE_KEYS;
+            is_listed(key, keys.as_slice())
+        }
+        TableKind::Probe => {
+            let keys: [&str; 3] = PROBE_KEYS;
+            is_listed(key, keys.as_slice())
+        }
+        TableKind::Range => {
+            let keys: [&str; 3] = RANGE_KEYS;
             is_listed(key, keys.as_slice())
         }
     }

@@ -5,6 +5,7 @@ mod control;
 mod device;
 mod fault;
 mod keys;
+mod range;
 mod reader;
 #[cfg(test)]
 mod tests;

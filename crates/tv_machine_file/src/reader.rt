@@ -2,6 +2,7 @@
 
 ghost use Rattle.std.specs.Prelude.{◌≡◌, [], IfOk, IfErr};
 ghost use Rattle.toml.specs.View.{table_view};
+ghost use Rattle.tv_machine_file.specs.DeviceFiles.{AreProbes};
 ghost use Rattle.tv_machine_file.specs.Keys.{Tells};
 ghost use Rattle.tv_machine_file.specs.MachineFiles.{IsAnswer, file_faults, machine_of};
 ghost use Rattle.tv_machine.specs.Valid.{IsValid};
@@ -69,6 +70,7 @@ const TUBE_BOUNDS: Bounds = Bounds {
 pub fn read(alloc: Global, bytes: &[u8]) -> Result<Machine, FileFault>
     ensures answer { IsAnswer bytes.now result }
     ensures valid { IfOk result IsValid }
+    ensures probes { IfOk result (λ machine. AreProbes machine.device) }
 {
     match toml::table_from_slice(alloc, bytes) {
         Ok(table) => read_table(alloc, &table),
@@ -97,7 +99,7 @@ fn read_table(alloc: Global, table: &Table) -> Result<Machine, FileFault>
     let journal_bytes = number(alloc, table, "", "journal_bytes", &JOURNAL_BYTES_BOUNDS)?;
     let tube = number(alloc, table, "", "tube", &TUBE_BOUNDS)? as u16;
     let control = read_control(alloc, table)?;
-    let device = read_devices(alloc, table)?;
+    let device = read_devices(alloc, table, ram)?;
     Ok(Machine {
         image,
         ram,

@@ -1,6 +1,6 @@
 -- An engine of probes: a core between the parts of a round, with the probes in its slots.
 use Rattle.std.specs.List.{AllByRecursion}
-use Rattle.std.specs.Prelude.{◌≡◌, ℕ, suc, ◌<◌, ◌≤◌, Bool, true, false, List, [], ◌∷◌, length, get_or, None, IfNone}
+use Rattle.std.specs.Prelude.{◌≡◌, ℕ, suc, ◌<◌, ◌≤◌, Bool, true, false, List, length, get_or, None, IfNone}
 use Rattle.tv_machine.specs.declared.kinds.DeviceKind.TheVariants as kind
 use Rattle.tv_machine.specs.declared.kinds.DeviceSpec.{DeviceSpec}
 use Rattle.tv_machine.specs.Valid.{IsValid}

@@ -4,6 +4,7 @@ ghost use Rattle.std.specs.Prelude.{◌≡◌, ◌<◌, ◌≤◌, [], None, Som
 ghost use Rattle.std.specs.Option.{option_map};
 ghost use Rattle.std.specs.Result.{result_map_both};
 ghost use Rattle.tv_machine.specs.Valid.{IsValid};
+ghost use Rattle.tv_runner.specs.Engines.{AreProbes};
 ghost use Rattle.tv_top.specs.Commands.{Does, DoesReplay, DoesSolo, image_name as name_of_image};
 ghost use Rattle.tv_top.specs.Refusals.{refused_by};
 ghost use Rattle.tv_top.specs.Stages.{sides};
@@ -30,7 +31,7 @@ impl<S: Store, O: Sink, E: Sink, R: Entropy> PlainOutside<S, O, E, R> {
         machine: &'a Machine,
     ) -> Result<Option<Run>, Refusal<'a>>
         requires valid { IsValid machine.now }
-        requires alone { machine.now.device ≡ [] }
+        requires probes { AreProbes machine.now.device }
         ensures does { Does (asked_by command.entry) machine.now (sides (S.told self.old.store) (O.told self.old.out)) (sides (S.told self.new.store) (O.told self.new.out))
             (result_map_both (λ run. run) refused_by result) }
         ensures err { E.told self.new.err ≡ E.told self.old.err }
@@ -62,7 +63,7 @@ impl<S: Store, O: Sink, E: Sink, R: Entropy> PlainOutside<S, O, E, R> {
         journal: Option<&'a str>,
     ) -> Result<Run, Refusal<'a>>
         requires valid { IsValid machine.now }
-        requires alone { machine.now.device ≡ [] }
+        requires probes { AreProbes machine.now.device }
         ensures does { DoesSolo machine.now image.now (option_map (λ file. file.now) journal.entry) (sides (S.told self.old.store) (O.told self.old.out)) (sides (S.told self.new.store) (O.told self.new.out))
             (result_map_both Some refused_by result) }
         ensures err { E.told self.new.err ≡ E.told self.old.err }
@@ -82,7 +83,7 @@ impl<S: Store, O: Sink, E: Sink, R: Entropy> PlainOutside<S, O, E, R> {
         journal: &'a str,
     ) -> Result<(), Refusal<'a>>
         requires valid { IsValid machine.now }
-        requires alone { machine.now.device ≡ [] }
+        requires probes { AreProbes machine.now.device }
         ensures does { DoesReplay machine.now image.now journal.now (sides (S.told self.old.store) (O.told self.old.out)) (sides (S.told self.new.store) (O.told self.new.out))
             (result_map_both (λ _. None) refused_by result) }
         ensures err { E.told self.new.err ≡ E.told self.old.err }

@@ -1,9 +1,10 @@
 //! The files that a command asks for.
 
-ghost use Rattle.std.specs.Prelude.{◌≡◌, ◌≤◌, [], IfOk, length};
+ghost use Rattle.std.specs.Prelude.{◌≡◌, ◌≤◌, IfOk, length};
 ghost use Rattle.std.specs.Option.{option_map};
 ghost use Rattle.std.specs.Result.{result_map_both};
 ghost use Rattle.tv_machine.specs.Valid.{IsValid};
+ghost use Rattle.tv_runner.specs.Engines.{AreProbes};
 ghost use Rattle.tv_top.specs.Refusals.{refused_by};
 ghost use Rattle.tv_top.specs.Steps.{Creates, Loads, LoadsImage, LoadsJournal, TakesMachine, IsMachineIn, flat_with, long_of, most_of};
 ghost use Rattle.tv_words.specs.CommandLine.{HasSteps, machine_by};
@@ -52,7 +53,7 @@ impl Role {
     }
 }
 
-/// The machine that a command is given. It has no device.
+/// The machine that a command is given. Its devices are probes.
 pub fn take_machine<'a, S: Store>(
     alloc: Global,
     origin: Origin<'a>,
@@ -61,7 +62,7 @@ pub fn take_machine<'a, S: Store>(
     requires { HasSteps (machine_by origin) }
     ensures takes { TakesMachine (machine_by origin.entry) (S.told store.old) (S.told store.new) (result_map_both (λ machine. machine) refused_by result) }
     ensures valid { IfOk result IsValid }
-    ensures alone { IfOk result (λ machine. machine.device ≡ []) }
+    ensures probes { IfOk result (λ machine. AreProbes machine.device) }
 {
     match origin {
         Origin::Flat { steps, .. } => Ok(flat_machine(alloc, steps)?),
@@ -78,7 +79,7 @@ fn flat_machine(alloc: Global, steps: u32) -> Result<Machine, Memory>
     requires few { steps ≤ HART_EVENTS }
     ensures machine { IfOk result (λ machine. machine ≡ flat_with steps) }
     ensures valid { IfOk result IsValid }
-    ensures alone { IfOk result (λ machine. machine.device ≡ []) }
+    ensures probes { IfOk result (λ machine. AreProbes machine.device) }
 {
     let mut machine = Machine::flat(alloc)?;
     machine.steps = steps;
@@ -89,7 +90,7 @@ fn flat_machine(alloc: Global, steps: u32) -> Result<Machine, Memory>
 fn read_machine<'a>(alloc: Global, bytes: &[u8]) -> Result<Machine, Refusal<'a>>
     ensures machine { IsMachineIn bytes.now (result_map_both (λ machine. machine) refused_by result) }
     ensures valid { IfOk result IsValid }
-    ensures alone { IfOk result (λ machine. machine.device ≡ []) }
+    ensures probes { IfOk result (λ machine. AreProbes machine.device) }
 {
     Ok(read(alloc, bytes)?)
 }

@@ -1,10 +1,11 @@
 //! A run on one thread, with its journal's file.
 
-ghost use Rattle.std.specs.Prelude.{◌≡◌, ◌≤◌, [], Some, length};
+ghost use Rattle.std.specs.Prelude.{◌≡◌, ◌≤◌, Some, length};
 ghost use Rattle.std.specs.Option.{option_map};
 ghost use Rattle.std.specs.Result.{result_map_both};
 ghost use Rattle.tv_machine.specs.Valid.{IsValid};
 ghost use Rattle.tv_runner.specs.Runs.{cause_by};
+ghost use Rattle.tv_runner.specs.Engines.{AreProbes};
 ghost use Rattle.tv_top.specs.Refusals.{refused_by};
 ghost use Rattle.tv_top.specs.Steps.{Runs, SavedBy};
 ghost use Rattle.tv_top.specs.Texts.{run_status};
@@ -53,7 +54,7 @@ impl Run {
     }
 }
 
-/// Runs a machine without devices, with an image, and keeps its journal in a file if one was created for it.
+/// Runs a machine whose devices are probes, with an image, and keeps its journal in a file if one was created for it.
 pub fn run_saved<'a, K: Sink + Drop, O: Sink>(
     alloc: Global,
     machine: &Machine,
@@ -62,7 +63,7 @@ pub fn run_saved<'a, K: Sink + Drop, O: Sink>(
     out: &mut O,
 ) -> Result<Run, Refusal<'a>>
     requires valid { IsValid machine.now }
-    requires alone { machine.now.device ≡ [] }
+    requires probes { AreProbes machine.now.device }
     requires fits { length image.now ≤ machine.now.ram }
     ensures { Runs machine.now image.now (option_map (K.told) file) (O.told out.old) (O.told out.new) (result_map_both Some refused_by result) }
 {

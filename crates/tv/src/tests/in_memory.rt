@@ -112,7 +112,7 @@ fn serve_over(
 
 /// The same over objects none of whose calls fails. The error output takes one put alone.
 fn serve(rt: &impl AllocGlobal, words: &[&str], objects: Objects) -> Result<Answer, Fail> {
-    let store = store(rt, objects, sink(rt, 64, &[])?, &[])?;
+    let store = store(rt, objects, sink(rt, 256, &[])?, &[])?;
     serve_over(rt, words, store, sink(rt, 64, &[])?, sink(rt, 64, &[1])?)
 }
 
@@ -471,6 +471,120 @@ fn machines_run_as_their_files_say(rt: HostRuntime) -> Result<(), Fail> {
         let objects = with_file(&rt, objects, "journal", journal)?;
         let again = serve(&rt, &["replay", "machine", "journal"], objects)?;
         assert_eq!(rt; again.status, 0);
+    }
+    Ok(())
+}
+
+/// Stores `A` and then `B` at the probe's DATA, loads it, and puts what it holds.
+const POSTING: [u32; 12] = [
+    0x100012b7, 0x04100313, 0x0062b823, 0x04200313, 0x0062b823, 0x0102b383, 0x10000e37, 0x007e0023,
+    0x00100eb7, 0x00005f37, 0x555f0f13, 0x01eea023,
+];
+
+/// Hart 0 stores 0x33 at DATA and loads COUNT, hart 1 loads DATA. Hart 0 puts COUNT as a digit, hart 1 puts DATA.
+const LOADING: [u32; 18] = [
+    0x100012b7, 0x10000e37, 0x02051a63, 0x03300313, 0x0062b823, 0x0202b383, 0x03038393, 0x007e0023,
+    0x01f00e93, 0xfffe8e93, 0xfe0e9ee3, 0x00100eb7, 0x00005f37, 0x555f0f13, 0x01eea023, 0x0102b383,
+    0x007e0023, 0x0000006f,
+];
+
+/// Has the probe write 4 bytes at 0x8000_0ffe and then 2, raise its interrupt, and write 9 bytes there; puts the digit of
+/// RESULT after each.
+const ASKING: [u32; 25] = [
+    0x100012b7, 0x10000e37, 0x00001317, 0xff630313, 0x0062b023, 0x00400393, 0x00200e93, 0x030000ef,
+    0x00200393, 0x028000ef, 0x00300e93, 0x020000ef, 0x00200e93, 0x00900393, 0x014000ef, 0x00100eb7,
+    0x00005f37, 0x555f0f13, 0x01eea023, 0x0072a423, 0x01d2ac23, 0x01c2af03, 0x030f0f13, 0x01ee0023,
+    0x00008067,
+];
+
+/// Has the probe write 8 bytes, and jumps to itself.
+const WRITING: [u32; 9] = [
+    0x100012b7, 0x00001317, 0x0062b023, 0x00800393, 0x0072a423, 0x0062b823, 0x00200393, 0x0072ac23,
+    0x0000006f,
+];
+
+/// Stores at DATA, and jumps to itself.
+const STORING: [u32; 3] = [0x100012b7, 0x0002b823, 0x0000006f];
+
+/// Stores at DATA, loads it, and jumps to itself.
+const STALLING: [u32; 4] = [0x100012b7, 0x0002b823, 0x0102b303, 0x0000006f];
+
+#[test]
+fn probes_serve_as_their_machine_says(rt: HostRuntime) -> Result<(), Fail> {
+    // Each by the keys before and of the probe and the image, with what it comes to: a load overtakes no store; values go
+    // to the harts that wait for them; what isn't granted is refused, and 9 bytes at once; the records of a service run
+    // out; a store stalls behind another hart's; so does a load, which asks for no room.
+    let rows: [(&str, &str, &[u32], u8, &str, &str, &[u8]); 6] = [
+        (
+            "",
+            "",
+            &POSTING,
+            0,
+            "B",
+            "",
+            b"TVJ1\x01\0\x06\0\0\0\x02\0\x02\0\x02\0\x07\0\x08\0\x0b\x40\0\0\0\x01\0\x06\0\0\0\0\x08\0\0\0",
+        ),
+        (
+            "harts = 2",
+            "mem = []\nirq = false",
+            &LOADING,
+            0,
+            "13",
+            "",
+            b"TVJ1\x01\0\x06\0\0\0\x01\x01\x04\0\0\0\x02\0\x02\0\x07\0\x08\0\x02\0\x07\0\x08\0\x0b\x40\0\0\0\
+            \x01\0\x40\0\0\0\x01\x01\x40\0\0\0\x0b\x40\0\0\0\x01\0\x05\0\0\0\0\x0e\0\0\0",
+        ),
+        (
+            "",
+            "mem = [{ base = 0x80000000, len = 4096 }]\nirq = false",
+            &ASKING,
+            0,
+            "2122",
+            "",
+            b"TVJ1\x01\0\x0b\0\0\0\x02\0\x02\0\x02\0\x03\0\x04\0\x06\0\x02\0\x07\0\x08\0\x0b\x40\0\0\0\
+            \x01\0\x08\0\0\0\x02\0\x02\0\x03\0\x04\0\x06\0\x02\0\x07\0\x08\0\x0b\x40\0\0\0\
+            \x01\0\x08\0\0\0\x02\0\x02\0\x03\0\x05\0\x06\0\x02\0\x07\0\x08\0\x0b\x40\0\0\0\
+            \x01\0\x09\0\0\0\x02\0\x02\0\x02\0\x07\0\x08\0\x0b\x40\0\0\0\x01\0\x07\0\0\0\0\x27\0\0\0",
+        ),
+        (
+            "journal_entries = 7",
+            "",
+            &WRITING,
+            7,
+            "",
+            "tv: journal full after 6 records\n",
+            b"TVJ1\x01\0\x40\0\0\0\x02\0\x02\0\x02\0\x02\0\x03\0\x10\x01\0\x06\0\0\0",
+        ),
+        (
+            "harts = 2\ntube = 1\nsteps = 130",
+            "",
+            &STORING,
+            6,
+            "",
+            "tv: step limit 130\n",
+            b"TVJ1\x01\0\x40\0\0\0\x01\x01\x01\0\0\0\x02\0\x0b\x40\0\0\0\x01\0\x40\0\0\0\x01\x01\x01\0\0\0\
+            \0\x06\0\0\0",
+        ),
+        (
+            "tube = 1\njournal_entries = 2",
+            "",
+            &STALLING,
+            7,
+            "",
+            "tv: journal full after 2 records\n",
+            b"TVJ1\x01\0\x02\0\0\0\x02\0\x10\x01\0\x02\0\0\0",
+        ),
+    ];
+    for (keys, probe, words, status, out, line, journal) in rows {
+        let text = format!(in rt.alloc();
+            "image = 'image'\n{keys}\n[[device]]\nkind = 'probe'\n{probe}"
+        )?;
+        let image = image(&rt, words)?;
+        let objects = with_machine(&rt, text.as_bytes(), &image)?;
+        let words = ["solo", "--journal", "journal", "machine"];
+        let answer = serve(&rt, &words, objects)?;
+        expect(&rt, &answer, status, out, line);
+        expect_journal(&rt, &answer, journal);
     }
     Ok(())
 }

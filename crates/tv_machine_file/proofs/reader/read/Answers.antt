@@ -1,5 +1,5 @@
 use Rattle.toml.specs.View.{table_view}
-use Rattle.tv_machine_file.proofs.Answer.{answer, valid_answer}
+use Rattle.tv_machine_file.proofs.Answer.{answer, probes_answer, valid_answer}
 use Rattle.tv_machine_file.proofs.reader.read.Goals as goal
 
 pub returns-in-Ok-clause-answer : goal.returns-in-Ok-clause-answer
@@ -9,3 +9,6 @@ returns-in-Ok-clause-answer c =
 
 pub returns-in-Ok-clause-valid : goal.returns-in-Ok-clause-valid
 returns-in-Ok-clause-valid c = valid_answer (table_view c.in-Ok.table) c.read_table.result c.read_table.ensures.ok c.read_table.ensures.value
+
+pub returns-in-Ok-clause-probes : goal.returns-in-Ok-clause-probes
+returns-in-Ok-clause-probes c = probes_answer (table_view c.in-Ok.table) c.read_table.result c.read_table.ensures.ok c.read_table.ensures.value
