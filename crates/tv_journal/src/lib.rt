@@ -185,6 +185,7 @@ impl Journal {
 
     /// Adds an entry for which room was reserved, and takes it from what is reserved: a record, or none where an event joins
     /// a run, and the bytes that the entry has.
+    #[inline(always)]
     pub fn push_reserved(&mut self, entry: &Entry)
         requires few { length self.old.entries < 2 ^ 32 - 1 }
         requires entry { IsEntry entry.now }
@@ -232,6 +233,7 @@ impl Journal {
 
     /// Reserves room for an entry, and so many records and bytes of payload more for what follows it. `false` exactly where
     /// it is not free, and nothing is changed then.
+    #[inline(always)]
     pub fn reserve_for(&mut self, entry: &Entry, records: u32, bytes: u32) -> bool
         ensures { (result, self.new) ≡ reserved_for self.old entry.now records bytes }
     {

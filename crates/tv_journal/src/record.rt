@@ -252,6 +252,9 @@ impl Store {
 
     /// Adds an entry for which there is memory. An event of the last record's hart joins that record, any other entry is a
     /// record of its own.
+    // Inlined, so that an entry of a known kind is not laid out in memory: each has room for the longest payload, and laying one
+    // out clears all of it.
+    #[inline(always)]
     pub fn add(&mut self, entry: &Entry)
         requires memory { length (added (held self.old) entry.now) ≤ vec_capacity self.old.records }
         requires payload_memory { length self.old.payload.items + payload_in entry.now ≤ vec_capacity self.old.payload }
