@@ -13,7 +13,7 @@ runs="${1:-100}"
 folder="$(mktemp -d)" || exit 1
 trap 'rm -rf "$folder"' EXIT
 
-below="tv_base tv_items tv_script tv_virtio tv_transport tv_plan tv_port tv_driver tv_regs tv_vring tv_small"
+below="tv_base tv_items tv_script tv_virtio tv_transport tv_plan tv_port tv_driver tv_regs tv_vring tv_serving tv_small"
 for crate in $below; do
     mkdir -p "$folder/crates/$crate"
     for part in src specs proofs; do
