@@ -4,6 +4,7 @@ use Rattle.std.specs.Prelude.{⊤, IsErr, flat_map}
 use Rattle.std.specs.Option.{option_map}
 use Rattle.std.proofs.lemmas.Grind.{flat_map-append}
 use Rattle.std.proofs.lemmas.List.{take-append-drop}
+use Rattle.tv_base.specs.declared.Failed.{Failed}
 use Rattle.tv_out.specs.declared.Short.{Short}
 use Rattle.tv_out.specs.Calls.{after_call}
 use Rattle.tv_out.specs.Told.{ToldSink, FollowsPut, FellShort, appended}
@@ -116,23 +117,23 @@ pub cut-whole : (bytes : List ℕ) (old new : ToldSink) → EndsIn bytes old [] 
 cut-whole bytes old new ends = ends old [] (writing-none old)
 
 -- what holds at an error that is returned as it came
-pub at-err : {P : Type 0} (r : Result ⊤ Short) → P → OnErr r P
+pub at-err : {P : Type 0} (r : Result ⊤ Failed) → P → OnErr r P
 at-err (Ok _) holds = tt
 at-err (Err _) holds = holds
 
-pub gives-cut : (r : Result ⊤ Short) (bytes : List ℕ) (old new : ToldSink) → IsErr r → IsPartPut bytes old new → PutGives r bytes old new
+pub gives-cut : (r : Result ⊤ Failed) (bytes : List ℕ) (old new : ToldSink) → IsErr r → IsPartPut bytes old new → PutGives r bytes old new
 gives-cut (Ok _) bytes old new is cut = absurd (cc is)
 gives-cut (Err _) bytes old new is cut = cut
 
 -- what follows from what an error says
-pub on-err : (P Q : Type 0) (r : Result ⊤ Short) → (P → Q) → OnErr r P → OnErr r Q
+pub on-err : (P Q : Type 0) (r : Result ⊤ Failed) → (P → Q) → OnErr r P → OnErr r Q
 on-err P Q (Ok _) then on = on
 on-err P Q (Err _) then on = then on
 
-pub gives-whole : (r : Result ⊤ Short) (bytes : List ℕ) (old new : ToldSink) → 0 < length bytes → OnOk r (WritesOn bytes old [] new []) → OnErr r (EndsIn bytes old [] new) → PutGives r bytes old new
+pub gives-whole : (r : Result ⊤ Failed) (bytes : List ℕ) (old new : ToldSink) → 0 < length bytes → OnOk r (WritesOn bytes old [] new []) → OnErr r (EndsIn bytes old [] new) → PutGives r bytes old new
 gives-whole (Ok _) bytes old new some ok err = written-whole bytes old new some ok
 gives-whole (Err _) bytes old new some ok err = cut-whole bytes old new err
 
-pub on-ok : (P Q : Type 0) (r : Result ⊤ Short) → (P → Q) → OnOk r P → OnOk r Q
+pub on-ok : (P Q : Type 0) (r : Result ⊤ Failed) → (P → Q) → OnOk r P → OnOk r Q
 on-ok P Q (Ok _) then on = then on
 on-ok P Q (Err _) then on = on

@@ -39,7 +39,7 @@ use std::alloc::Global;
 use std::marker::Model;
 use tv_base::{DevNo, HartNo, Memory, Why};
 use tv_items::Heard;
-use tv_out::{Short, Sink};
+use tv_out::{Failed, Sink};
 use writer::write_lines;
 
 /// One event of a run.
@@ -362,8 +362,8 @@ impl Journal {
     /// Puts the journal's file to a sink, in pieces. It takes no memory.
     ///
     /// # Errors
-    /// `Short` where the sink failed. A front of the file went out then.
-    pub fn write_file<K: Sink>(&self, sink: &mut K) -> Result<(), Short>
+    /// `Failed` where the sink failed. A front of the file went out then.
+    pub fn write_file<K: Sink>(&self, sink: &mut K) -> Result<(), Failed>
         ensures saved { IsSaved result self.now.entries self.now.outer (K.told sink.old) (K.told sink.new) }
         ensures cause { HasCause (K.told sink.old).faults (K.told sink.new).faults (is_err result) }
     {

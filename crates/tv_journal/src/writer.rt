@@ -11,13 +11,13 @@ ghost use Rattle.tv_journal.specs.Writing.{WritesOn, EndsIn, PutGives};
 use crate::record::{EndLine, Store, Stored};
 use arrayvec::ArrayVec;
 use tv_base::{DevNo, PIECE_BYTES, Why};
-use tv_out::{Short, Sink};
+use tv_out::{Failed, Sink};
 
 /// Bytes that wait to be put.
 pub type Piece = ArrayVec<u8, 4096>;
 
 /// Puts what waits.
-pub fn put_piece<K: Sink>(sink: &mut K, piece: &mut Piece) -> Result<(), Short>
+pub fn put_piece<K: Sink>(sink: &mut K, piece: &mut Piece) -> Result<(), Failed>
     ensures empty { OnOk result (piece.new.items ≡ []) }
     ensures ok { OnOk result (WritesOn [] (K.told sink.old) piece.old.items (K.told sink.new) []) }
     ensures err { OnErr result (EndsIn [] (K.told sink.old) piece.old.items (K.told sink.new)) }
@@ -26,13 +26,17 @@ pub fn put_piece<K: Sink>(sink: &mut K, piece: &mut Piece) -> Result<(), Short>
     if piece.is_empty() {
         return Ok(());
     }
-    sink.put(piece)?;
-    piece.clear();
-    Ok(())
+    match sink.put(piece) {
+        Ok(()) => {
+            piece.clear();
+            Ok(())
+        }
+        Err(_) => Err(Failed),
+    }
 }
 
 /// Writes bytes, up to as many as a piece has.
-pub fn write_bytes<K: Sink>(sink: &mut K, piece: &mut Piece, bytes: &[u8]) -> Result<(), Short>
+pub fn write_bytes<K: Sink>(sink: &mut K, piece: &mut Piece, bytes: &[u8]) -> Result<(), Failed>
     requires fits { length bytes.now ≤ 4096 }
     ensures ok { OnOk result (WritesOn bytes.now (K.told sink.old) piece.old.items (K.told sink.new) piece.new.items) }
     ensures err { OnErr result (EndsIn bytes.now (K.told sink.old) piece.old.items (K.told sink.new)) }
@@ -126,7 +130,7 @@ fn write_record<K: Sink>(
     piece: &mut Piece,
     payload: &[u8],
     more: &Stored,
-) -> Result<(), Short>
+) -> Result<(), Failed>
     requires lies { LiesIn (length payload.now) more.now }
     ensures ok { OnOk result (WritesOn (stored_bytes payload.now more.now) (K.told sink.old) piece.old.items (K.told sink.new) piece.new.items) }
     ensures err { OnErr result (EndsIn (stored_bytes payload.now more.now) (K.told sink.old) piece.old.items (K.told sink.new)) }
@@ -142,7 +146,7 @@ pub fn write_records<K: Sink>(
     piece: &mut Piece,
     payload: &[u8],
     records: &[Stored],
-) -> Result<(), Short>
+) -> Result<(), Failed>
     requires lies { AllByRecursion (LiesIn (length payload.now)) records.now }
     ensures ok { OnOk result (WritesOn (flat_map (stored_bytes payload.now) records.now) (K.told sink.old) piece.old.items (K.told sink.new) piece.new.items) }
     ensures err { OnErr result (EndsIn (flat_map (stored_bytes payload.now) records.now) (K.told sink.old) piece.old.items (K.told sink.new)) }
@@ -155,7 +159,7 @@ pub fn write_records<K: Sink>(
 }
 
 /// Writes an end line.
-pub fn write_end<K: Sink>(sink: &mut K, piece: &mut Piece, end: EndLine) -> Result<(), Short>
+pub fn write_end<K: Sink>(sink: &mut K, piece: &mut Piece, end: EndLine) -> Result<(), Failed>
     requires cause { cause_byte end.why ≢ None }
     ensures ok { OnOk result (WritesOn (end_bytes end) (K.told sink.old) piece.old.items (K.told sink.new) piece.new.items) }
     ensures err { OnErr result (EndsIn (end_bytes end) (K.told sink.old) piece.old.items (K.told sink.new)) }
@@ -178,7 +182,7 @@ fn write_around<K: Sink>(
     payload: &[u8],
     records: &[Stored],
     end: EndLine,
-) -> Result<(), Short>
+) -> Result<(), Failed>
     requires place { end.records ≤ length records.now }
     requires cause { cause_byte end.why ≢ None }
     requires lies { AllByRecursion (LiesIn (length payload.now)) records.now }
@@ -198,7 +202,7 @@ fn write_body<K: Sink>(
     piece: &mut Piece,
     store: &Store,
     end: Option<EndLine>,
-) -> Result<(), Short>
+) -> Result<(), Failed>
     requires fits { EndFits (held store.now) end }
     requires lies { Lies store.now }
     ensures ok { OnOk result (WritesOn (lines_bytes (held store.now) end) (K.told sink.old) piece.old.items (K.told sink.new) piece.new.items) }
@@ -212,7 +216,7 @@ fn write_body<K: Sink>(
 }
 
 /// Writes the end of the file, with the number of records.
-fn write_closing<K: Sink>(sink: &mut K, piece: &mut Piece, count: u32) -> Result<(), Short>
+fn write_closing<K: Sink>(sink: &mut K, piece: &mut Piece, count: u32) -> Result<(), Failed>
     ensures ok { OnOk result (WritesOn (closing_bytes count) (K.told sink.old) piece.old.items (K.told sink.new) []) }
     ensures err { OnErr result (EndsIn (closing_bytes count) (K.told sink.old) piece.old.items (K.told sink.new)) }
     ensures cause { HasCause (K.told sink.old).faults (K.told sink.new).faults (is_err result) }
@@ -222,7 +226,7 @@ fn write_closing<K: Sink>(sink: &mut K, piece: &mut Piece, count: u32) -> Result
 }
 
 /// Writes a file of these records with this end line.
-pub fn write_lines<K: Sink>(sink: &mut K, store: &Store, end: Option<EndLine>) -> Result<(), Short>
+pub fn write_lines<K: Sink>(sink: &mut K, store: &Store, end: Option<EndLine>) -> Result<(), Failed>
     requires are { AreLines (record { records = held store.now; end = end }) }
     requires lies { Lies store.now }
     ensures gives { PutGives result (file_bytes (record { records = held store.now; end = end })) (K.told sink.old) (K.told sink.new) }
