@@ -5,7 +5,7 @@ ghost use Rattle.tv_base.specs.declared.limits.TheConstants.{CHAIN_BYTES, DISK_S
 ghost use Rattle.tv_blk.specs.Parts.{state_of};
 ghost use Rattle.tv_blk.specs.Requests.{response_of};
 ghost use Rattle.tv_blk.specs.declared.request.Outcome.TheVariants as came;
-ghost use Rattle.tv_plan.specs.Block.{new_block, block_rested, block_effect, block_acted, block_loaded, block_hand, block_answer, block_resized, resized, resize_told, resize_verdict, response_bytes};
+ghost use Rattle.tv_plan.specs.Block.{new_block, block_effect, block_acted, block_loaded, block_hand, block_answer, block_resized, resized, resize_told, resize_verdict, response_bytes};
 ghost use Rattle.tv_port.specs.Acting.{CanAct};
 ghost use Rattle.tv_regs.specs.Effects.{IsOfQueue};
 ghost use Rattle.tv_script.specs.Scripts.{AwaitsAll, Ask};

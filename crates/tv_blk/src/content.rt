@@ -1,6 +1,6 @@
 //! What comes back of a request: its content, and then its status.
 
-ghost use Rattle.std.specs.Prelude.{◌≡◌, ◌≤◌, ◌<◌, ◌+◌, ◌∷◌, [], ◌++◌, length, replicate};
+ghost use Rattle.std.specs.Prelude.{◌≡◌, ◌≤◌, ◌<◌, ◌+◌, [], ◌++◌, length, replicate};
 ghost use Rattle.tv_base.specs.declared.limits.TheConstants.{CHAIN_BYTES};
 ghost use Rattle.tv_blk.specs.Requests.{response_of};
 ghost use Rattle.tv_blk.specs.declared.request.Outcome.TheVariants as came;

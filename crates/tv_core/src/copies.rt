@@ -1,6 +1,6 @@
 //! Copies of a machine and its parts.
 
-ghost use Rattle.std.specs.Prelude.{◌≡◌, IfOk, length};
+ghost use Rattle.std.specs.Prelude.{◌≡◌, IfOk};
 
 use std::alloc::Global;
 use tv_base::Memory;

@@ -1,6 +1,6 @@
 //! Laws of the bytes of frames.
 
-ghost use Rattle.std.specs.Prelude.{◌≡◌, ◌<◌, ◌++◌, ℕ, List, [], IsTrue, length};
+ghost use Rattle.std.specs.Prelude.{◌≡◌, ◌<◌, ◌++◌, ℕ, List, IsTrue, length};
 ghost use Rattle.tv_ctl_wire.specs.Frames.{SpellsRequest, SpellsReply, is_known};
 ghost use Rattle.tv_ctl_wire.specs.Reading.{reading, requests, replies};
 ghost use Rattle.tv_ctl_wire.specs.declared.Cut.TheVariants as cut;

@@ -1,6 +1,6 @@
 //! Guest memory: bytes from the address 0 on, with queues of 8 descriptors, and a port that serves a device from them.
 
-ghost use Rattle.std.specs.Prelude.{◌≡◌, ◌≤◌, ◌+◌, IfSome, length};
+ghost use Rattle.std.specs.Prelude.{◌≡◌, ◌≤◌, ◌+◌, IfSome};
 ghost use Rattle.tv_items.specs.Fits.{BytesOrRefused, DoneOrRefused, FitsAction, IsAction};
 ghost use Rattle.tv_base.specs.declared.limits.TheConstants.{PIECE_BYTES};
 

@@ -1,6 +1,6 @@
 //! Reservations of LR and SC.
 
-ghost use Rattle.std.specs.Prelude.{◌≡◌, ◌<◌, ◌≤◌, ◌+◌, ◌*◌, None, Some, false};
+ghost use Rattle.std.specs.Prelude.{◌≡◌, ◌<◌, ◌+◌, ◌*◌, None, Some, false};
 ghost use Rattle.tv_spec.specs.Reservations.{after_hart_write, after_other_write, after_write, granule, is_reserved, none_reserved, reserved_by, with_reserved};
 
 use std::marker::Model;

@@ -1,6 +1,6 @@
 // A word as its six fields.
 
-ghost use Rattle.std.specs.Prelude.{◌≡◌, ◌<◌, ◌^◌};
+ghost use Rattle.std.specs.Prelude.{◌≡◌, ◌<◌};
 ghost use Rattle.tv_isa.specs.Fields.{split, join, Fits};
 
 /// The fields of a word, in the places that the R format gives them.

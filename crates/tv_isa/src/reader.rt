@@ -1,6 +1,6 @@
 // The instruction of a word.
 
-ghost use Rattle.std.specs.Prelude.{◌≡◌, ◌≢◌, ◌%◌, ◌^◌, ◌<◌, IfSome, IfNone, Some};
+ghost use Rattle.std.specs.Prelude.{◌≡◌, ◌≢◌, ◌<◌, IfSome, IfNone, Some};
 ghost use Rattle.tv_isa.specs.declared.Instr.{Instr};
 ghost use Rattle.tv_isa.specs.Fields.{split, join, Fits};
 ghost use Rattle.tv_isa.specs.Formats.{u_imm, j_offset};

@@ -3,7 +3,7 @@
 ghost use Rattle.std.specs.Prelude.{◌≡◌, [], Some, ◌∷◌, true, IfOk, IfErr, codes};
 ghost use Rattle.toml.specs.Data.{as_table};
 ghost use Rattle.toml.specs.View.{items_view, table_view, view};
-ghost use Rattle.tv_machine_file.specs.DeviceFiles.{device_faults, device_list, device_of, device_table_faults, devices_faults, devices_in, devices_of, flag_faults, flag_of, kind_at, kind_faults, kind_named, slot_faults, slots_faults, slots_of, table_of};
+ghost use Rattle.tv_machine_file.specs.DeviceFiles.{device_faults, device_list, device_of, device_table_faults, devices_faults, devices_in, devices_of, flag_faults, flag_of, kind_at, kind_faults, kind_named, slot_faults, slots_faults, table_of};
 ghost use Rattle.tv_machine_file.specs.Keys.{Tells, held, key_path, member_path};
 
 use crate::fault::FileFault;

@@ -1,6 +1,6 @@
 //! Which replies answer which action.
 
-ghost use Rattle.std.specs.Prelude.{◌≡◌, ◌≤◌, ◌↔◌, IsTrue, length};
+ghost use Rattle.std.specs.Prelude.{◌↔◌, IsTrue};
 ghost use Rattle.tv_items.specs.Fits.{BytesOrFailed, BytesOrRefused, DoneOrFailed, DoneOrRefused, DoneOrTaken, FewOrFailed, FitsAction};
 
 use tv_items::{Action, Heard};

@@ -1,6 +1,6 @@
 //! A device of the monitor, and what is under way at it.
 
-ghost use Rattle.std.specs.Prelude.{◌≡◌, ◌<◌, ◌≤◌, ◌+◌, ◌^◌, ◌++◌, ◌↔◌, Bool, true, false, IfOk, IfErr, IfSome, IsTrue, OnOk, length, vec_len, vec_capacity};
+ghost use Rattle.std.specs.Prelude.{◌≡◌, ◌<◌, ◌+◌, ◌^◌, ◌++◌, ◌↔◌, true, false, IfOk, IfErr, IfSome, IsTrue, OnOk, length, vec_len, vec_capacity};
 ghost use Rattle.tv_items.specs.Fits.{IsAction};
 ghost use Rattle.tv_plan.specs.Devices.{Acted, next};
 ghost use Rattle.tv_port.specs.Acting.{CanAct};

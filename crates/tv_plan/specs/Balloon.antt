@@ -16,7 +16,6 @@ use Rattle.tv_items.specs.declared.stats.TheConstants.{STATS}
 use Rattle.tv_items.specs.declared.item.Item.{Item}
 use Rattle.tv_items.specs.declared.item.Item.TheVariants as item
 use Rattle.tv_items.specs.declared.item.Verdict.{Verdict}
-use Rattle.tv_items.specs.declared.action.Heard.{Heard}
 use Rattle.tv_items.specs.declared.action.Action.{Action}
 use Rattle.tv_items.specs.declared.action.Action.TheVariants as action
 use Rattle.tv_script.specs.Scripts.{Script, Over, Stop, Ask, Tell, ◌>>=◌, caught}

@@ -19,11 +19,10 @@ use Rattle.tv_script.specs.Services.{End, Idle, Plan, opened}
 use Rattle.tv_transport.specs.declared.registers.Effect.{Effect}
 use Rattle.tv_transport.specs.declared.registers.Effect.TheVariants as effect
 use Rattle.tv_transport.specs.declared.registers.TheConstants.{VERSION_1}
-use Rattle.tv_transport.specs.Registers.{Registers, first_registers, transport_load, transport_store, has, DRIVER_OK, DEVICE_NEEDS_RESET, queue_regs, broken, buffer_used, config_changed}
+use Rattle.tv_transport.specs.Registers.{Registers, first_registers, transport_load, transport_store, has, DRIVER_OK, queue_regs, broken, buffer_used, config_changed}
 use Rattle.tv_plan.specs.Serving.{is_served, index_raised, interrupt_if, broken_off, stopped_as}
 use Rattle.tv_virtio.specs.declared.queue.QueueRegs.{QueueRegs}
 use Rattle.tv_virtio.specs.declared.queue.QueueStop.{QueueStop}
-use Rattle.tv_virtio.specs.declared.queue.QueueStop.TheVariants as stop
 use Rattle.tv_virtio.specs.Spans.{total}
 use Rattle.tv_virtio.specs.Queue.{take_chain, give_chain, Took}
 

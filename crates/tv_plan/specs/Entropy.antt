@@ -1,21 +1,18 @@
 -- The entropy device (VIRTIO 1.2, section 5.4): each chain of its one queue is filled with random bytes.
-use Rattle.std.specs.Prelude.{◌≡◌, ℕ, ◌++◌, ◌+◌, ◌%◌, ◌&&◌, not, Bool, true, false, if◌then◌else◌, List, [], ◌∷◌, replicate, slice_index, slice_set, Option, Some, None}
+use Rattle.std.specs.Prelude.{◌≡◌, ℕ, ◌++◌, ◌+◌, Bool, if◌then◌else◌, List, [], ◌∷◌, replicate, slice_index, slice_set, Option, Some, None}
 use Rattle.std.proofs.Common.{refl}
 use Rattle.tv_items.specs.declared.item.Item.{Item}
 use Rattle.tv_items.specs.declared.item.Item.TheVariants as item
-use Rattle.tv_items.specs.declared.action.Heard.{Heard}
-use Rattle.tv_items.specs.declared.action.Heard.TheVariants as heard
 use Rattle.tv_items.specs.declared.action.Action.TheVariants as action
 use Rattle.tv_script.specs.Scripts.{Script, Over, Stop, Ask, ◌>>=◌, caught}
 use Rattle.tv_script.specs.Services.{End, Idle, Plan, opened}
 use Rattle.tv_transport.specs.declared.registers.Effect.{Effect}
 use Rattle.tv_transport.specs.declared.registers.Effect.TheVariants as effect
 use Rattle.tv_transport.specs.declared.registers.TheConstants.{VERSION_1}
-use Rattle.tv_transport.specs.Registers.{Registers, first_registers, transport_load, transport_store, has, DRIVER_OK, DEVICE_NEEDS_RESET, queue_regs, broken, buffer_used}
+use Rattle.tv_transport.specs.Registers.{Registers, first_registers, transport_load, transport_store, queue_regs, broken, buffer_used}
 use Rattle.tv_plan.specs.Serving.{is_served, index_raised, interrupt_if, broken_off, stopped_as}
 use Rattle.tv_virtio.specs.declared.queue.QueueRegs.{QueueRegs}
 use Rattle.tv_virtio.specs.declared.queue.QueueStop.{QueueStop}
-use Rattle.tv_virtio.specs.declared.queue.QueueStop.TheVariants as stop
 use Rattle.tv_virtio.specs.declared.queue.Span.{Span}
 use Rattle.tv_virtio.specs.Spans.{pieces, total}
 use Rattle.tv_virtio.specs.Queue.{heard_bytes, take_chain, give_chain, Took}

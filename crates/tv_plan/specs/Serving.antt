@@ -4,7 +4,7 @@ use Rattle.std.specs.Prelude.{ℕ, ◌+◌, ◌%◌, ◌&&◌, not, Bool, if◌t
 use Rattle.tv_items.specs.declared.action.Heard.{Heard}
 use Rattle.tv_items.specs.declared.action.Heard.TheVariants as heard
 use Rattle.tv_items.specs.declared.action.Action.TheVariants as action
-use Rattle.tv_script.specs.Scripts.{Script, Over, Stop, Ask}
+use Rattle.tv_script.specs.Scripts.{Script, Stop, Ask}
 use Rattle.tv_script.specs.Services.{End, Idle}
 use Rattle.tv_transport.specs.Registers.{Registers, has, DRIVER_OK, DEVICE_NEEDS_RESET}
 use Rattle.tv_virtio.specs.declared.queue.QueueStop.{QueueStop}

@@ -1,6 +1,6 @@
 //! The machine with the worker of one device.
 
-ghost use Rattle.std.specs.Prelude.{◌≡◌, ◌≤◌, ◌<◌, IfOk, length, slice_get};
+ghost use Rattle.std.specs.Prelude.{◌≡◌, ◌≤◌, ◌<◌, length, slice_get};
 ghost use Rattle.tv_machine.specs.Valid.{IsValid};
 ghost use Rattle.tv_plan.specs.Devices.{DeviceState, act};
 ghost use Rattle.tv_plan.specs.Probe.{new_probe};

@@ -13,7 +13,7 @@ ghost use Rattle.tv_plan.specs.Devices.{DeviceState};
 ghost use Rattle.tv_plan.specs.Probe.{new_probe};
 ghost use Rattle.tv_spec.specs.State.{first_in};
 
-use super::Probed;
+use super::probed::Probed;
 use bitflags::Flags;
 use std::alloc::Global;
 use std::process::Abort;

@@ -1,6 +1,6 @@
 //! The proxy: it gives out items, and hands each answer to the one that waits for it.
 
-ghost use Rattle.std.specs.Prelude.{◌≡◌, ◌≢◌, ◌↔◌, ◌<◌, ◌-◌, ◌^◌, ℕ, true, IfSome, IfNone, IsTrue, Some, None, slice_index_or};
+ghost use Rattle.std.specs.Prelude.{◌≡◌, ◌≢◌, ◌↔◌, ◌<◌, ◌-◌, ◌^◌, ℕ, true, IfSome, IfNone, Some, None, slice_index_or};
 ghost use Rattle.tv_proxy.specs.Messages as spec;
 ghost use Rattle.tv_proxy.specs.Proxies.{AcceptedSo, CanAccept, IsProxy, Maker, NobodyWaits, ValueLandedSo, VerdictLandedSo, asked, issued, no_items, posted, waits_for};
 

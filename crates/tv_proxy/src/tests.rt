@@ -1,7 +1,5 @@
 //! Tags, and who gets which answer.
 
-ghost use Rattle.std.specs.Prelude.{◌≡◌, true};
-
 use crate::{Landed, Proxy, heard_in, item_in, item_message, verdict_message};
 use std::process::Abort;
 use std::test::Fail;

@@ -183,12 +183,10 @@ pub fn new_probes(alloc: Global, machine: &Machine) -> Result<Vec<Probe>, Memory
 {
     let mut probes = Vec::new(alloc);
     for _device in machine.device.as_slice() {
-        match Probe::new(alloc) {
-            Ok(probe) => match probes.push(probe) {
-                Ok(()) => {}
-                Err(_) => return Err(Memory),
-            },
-            Err(Memory) => return Err(Memory),
+        let probe = Probe::new(alloc)?;
+        match probes.push(probe) {
+            Ok(()) => {}
+            Err(_) => return Err(Memory),
         }
     }
     Ok(probes)

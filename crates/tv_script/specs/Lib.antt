@@ -2,4 +2,3 @@ pub mod Answers
 pub mod Happenings
 pub mod Scripts
 pub mod Services
-pub mod Recorded

@@ -5,7 +5,6 @@
 ghost use Rattle.std.specs.Prelude.{◌≡◌, ◌↔◌, IfSome, IsSome, Some, false, length};
 ghost use Rattle.tv_grants.specs.Direct.{heard_of, may_do};
 ghost use Rattle.tv_grants.specs.Grants.{owns_source, ram_bytes};
-ghost use Rattle.tv_items.specs.declared.action.Action.{Action};
 ghost use Rattle.tv_services.specs.Served.{interrupt_served, memory_action, memory_reply, memory_served, tag_of};
 ghost use Rattle.tv_wire.specs.declared.Msg.TheVariants as msg_of;
 ghost use Rattle.tv_wire.specs.Spelling.{IsMessage};

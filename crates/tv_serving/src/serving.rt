@@ -1,6 +1,6 @@
 //! How a queue is served.
 
-ghost use Rattle.std.specs.Prelude.{◌≡◌, ◌≤◌, length, take};
+ghost use Rattle.std.specs.Prelude.{◌≤◌, length, take};
 ghost use Rattle.tv_script.specs.Scripts.{AwaitsAll};
 ghost use Rattle.tv_script.specs.Services.{TurnedSo, IsLower, IsEnd};
 ghost use Rattle.tv_serving.specs.Steps.{took_of, break_off, stopped, finish, hand, round};

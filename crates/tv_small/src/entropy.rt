@@ -1,7 +1,6 @@
 //! The entropy device (VIRTIO 1.2, section 5.4): each chain of its one queue is filled with random bytes.
 
 ghost use Rattle.std.specs.Prelude.{◌≡◌, ◌≤◌, [], length, take, IfOk};
-ghost use Rattle.tv_base.specs.declared.limits.TheConstants.{CHAIN_BYTES};
 ghost use Rattle.tv_plan.specs.Entropy.{new_entropy, entropy_effect, entropy_acted, entropy_loaded};
 ghost use Rattle.tv_regs.specs.Effects.{IsOfQueue};
 ghost use Rattle.tv_small.specs.Parts.{state_of};

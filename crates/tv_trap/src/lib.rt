@@ -7,7 +7,7 @@
 #![tactic(auto)]
 
 ghost use Rattle.std.specs.Prelude.{◌≡◌, ◌<◌, ◌%◌, None, if◌then◌else◌, is_some, unwrap_or};
-ghost use Rattle.tv_trap.specs.Registers.{aligned, csr_read, csr_write, is_set, mstatus, value_of, with_value};
+ghost use Rattle.tv_trap.specs.Registers.{aligned, csr_read, csr_write, is_set, value_of, with_value};
 ghost use Rattle.tv_trap.specs.Traps.{counted, counted_by, first_csrs, first_interrupt, pending_interrupt, trap_entry, trap_return};
 
 mod registers;

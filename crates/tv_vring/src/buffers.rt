@@ -1,8 +1,8 @@
 //! The bytes of a chain, in pieces.
 
-ghost use Rattle.std.specs.Prelude.{◌≡◌, ◌≤◌, ◌<◌, ◌+◌, [], ◌++◌, length, drop, take, IfOk, OnOk, vec_len, vec_capacity};
+ghost use Rattle.std.specs.Prelude.{◌≡◌, ◌≤◌, ◌<◌, ◌+◌, ◌++◌, length, drop, take, OnOk, vec_len, vec_capacity};
 ghost use Rattle.tv_script.specs.Scripts.{AwaitsAll};
-ghost use Rattle.tv_virtio.specs.Spans.{total, piece, pieces, piece_count};
+ghost use Rattle.tv_virtio.specs.Spans.{total, piece, pieces};
 ghost use Rattle.tv_virtio.specs.Queue.{RanSo, read_pieces, read_spans, write_pieces, write_spans, with_value, read};
 
 use crate::memory::{read, write};

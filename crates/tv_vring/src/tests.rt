@@ -1,6 +1,6 @@
 //! Queues in a list of bytes: the faults of a driver, what is asked for of a chain, and what comes back to the driver.
 
-ghost use Rattle.std.specs.Prelude.{◌≡◌, ◌≤◌, ◌<◌};
+ghost use Rattle.std.specs.Prelude.{◌≤◌, ◌<◌};
 ghost use Rattle.tv_virtio.specs.Queue.{IsServable};
 
 use crate::guest::{AVAILABLE, Asked, BUFFERS, DESCRIPTORS, Guest, USED};

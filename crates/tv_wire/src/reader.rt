@@ -1,6 +1,6 @@
 //! The message that bytes spell.
 
-ghost use Rattle.std.specs.Prelude.{◌≡◌, ◌≤◌, ◌<◌, ◌*◌, drop, length, if◌then◌else◌, IfSome, IfNone};
+ghost use Rattle.std.specs.Prelude.{◌≡◌, ◌≤◌, ◌<◌, ◌*◌, length, IfSome, IfNone};
 ghost use Rattle.tv_items.specs.declared.stats.TheConstants.{STATS};
 ghost use Rattle.tv_wire.specs.Reading as spec;
 ghost use Rattle.tv_wire.specs.Spelling as rules;

@@ -1,13 +1,13 @@
 //! The bytes that spell a message.
 
-ghost use Rattle.std.specs.Prelude.{◌≡◌, ◌≤◌, ◌<◌, ◌+◌, ◌*◌, ◌^◌, ◌∷◌, ◌++◌, [], Some, length, flat_map, take, drop};
+ghost use Rattle.std.specs.Prelude.{◌≡◌, ◌≤◌, ◌+◌, ◌*◌, ◌∷◌, ◌++◌, Some, length, flat_map, take, drop};
 ghost use Rattle.byteorder.specs.Endian.{little_bytes};
 ghost use Rattle.tv_base.specs.Width.{width_bytes};
 ghost use Rattle.tv_base.specs.declared.limits.TheConstants.{PIECE_BYTES, TUBE_MESSAGE_BYTES};
 ghost use Rattle.tv_items.specs.declared.stats.TheConstants.{STATS};
 ghost use Rattle.tv_wire.specs.declared.TheConstants.{HEAD_BYTES};
 ghost use Rattle.tv_wire.specs.Reading.{reading};
-ghost use Rattle.tv_wire.specs.Spelling.{parts_of, message_bytes, pair_bytes, piece_bytes, bool_byte, IsMessage, SpellsMessage, FitsBody, FitPairs};
+ghost use Rattle.tv_wire.specs.Spelling.{parts_of, message_bytes, pair_bytes, piece_bytes, IsMessage, SpellsMessage, FitsBody, FitPairs};
 
 use crate::{HEAD_BYTES, Msg};
 use byteorder::{ByteOrder, LittleEndian};

@@ -1,7 +1,5 @@
 //! One device, from the item to the answer.
 
-ghost use Rattle.std.specs.Prelude.{◌≡◌};
-
 use super::Side;
 use std::alloc::Global;
 use std::process::Abort;

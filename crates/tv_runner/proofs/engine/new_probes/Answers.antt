@@ -11,9 +11,9 @@ loop-device-init c = c.new-probes.ensures.items
 pub loop-device-preserved : goal.loop-device-preserved
 loop-device-preserved c =
     let n : ℕ = c.loop-device._device-index in
-    let same : c.in-Ok.probe ≡ new_probe = same_ok c.in-Ok.probe new_probe (sym c.in-Ok.is ∙ c.new.ensures) in
-    c.in-Ok-push.ensures.items
-    ∙ ap (λ (xs : List ProbeState). xs ++ c.in-Ok.probe ∷ []) c.loop-device.invariant
+    let same : c.in_ok-probe.probe ≡ new_probe = same_ok c.in_ok-probe.probe new_probe (sym c.in_ok-probe.was ∙ c.new.ensures) in
+    c.in-Ok.ensures.items
+    ∙ ap (λ (xs : List ProbeState). xs ++ c.in_ok-probe.probe ∷ []) c.loop-device.invariant
     ∙ ap (λ (q : ProbeState). replicate n new_probe ++ q ∷ []) same
     ∙ sym (replicate_next n new_probe)
 
